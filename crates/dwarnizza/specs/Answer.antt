@@ -1,0 +1,22 @@
+-- How an answer crosses to C: a result, and eight words.
+use mathlib.Core.List.{List, [], _∷_, _++_}
+use Prim.Native.Nat.{ℕ}
+use lib.ListN.{take, replicate}
+use Rattle.refusal.specs.Check.{Check}
+use Rattle.refusal.specs.Outcome.{Outcome, answered, absent, refusal, after}
+
+-- 0 answered, 1 absent, 2 refused.
+unfoldable pub result : Outcome → ℕ
+result (answered values) = 0
+result (absent values) = 1
+result (refusal number place) = 2
+
+-- The values, or a refusal's number and place; the other words are 0.
+unfoldable pub wordsOf : Outcome → List ℕ
+wordsOf (answered values) = take 8 (values ++ replicate 8 0)
+wordsOf (absent values) = take 8 (values ++ replicate 8 0)
+wordsOf (refusal number place) = number ∷ place ∷ replicate 6 0
+
+-- A check that has no values to tell.
+abbrev pub told : Check → Outcome
+told check = after check (answered [])

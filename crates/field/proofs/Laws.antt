@@ -1,0 +1,194 @@
+-- Laws of the numbers and the parts at an offset, over all widths and all lists.
+use mathlib.Core.Path.{_≡_, refl, sym, ap, ap₂, _∙_, subst}
+use mathlib.Core.Bool.{Bool, true, false, _&&_, false≢true}
+use mathlib.Core.List.{List, [], _∷_, _++_}
+use Prim.Native.Nat.{ℕ, zero, suc, _+_, _-_, _*_, _^_, _≤_, _<_, min}
+use native.Mathlib.Nat.{add-zero, suc-add, zero-add, mul-assoc, pow-suc, pow-succ', pow-le-pow-right, lt-of-lt-of-le, not-suc-le-zero, le-of-suc-le-suc, zero-lt-suc, zero-sub, sub-zero, suc-sub-suc, zero-min, min-zero, suc-min-suc}
+use native.Mathlib.Omega.{arith}
+use lib.Arith.{digits-lt}
+use lib.Dec.{eqb, lit<}
+use lib.ListN.{length, take, drop, replicate, length-take, length-drop, length-replicate, getD-replicate}
+use lib.Seq.{take-nil, drop-nil, take-length, getD-take, getD-drop, ext-getD, paste}
+use mir.Syntax.{w64}
+use mir.Val.{Fits}
+use borrow.Author.Tests.{eq-eqb, eqb-true}
+use Rattle.field.specs.Number.{byteAt, bigAt, littleAt}
+use Rattle.field.specs.Part.{partAt, sameBytes, allZero, overlay}
+
+-- ---- numbers
+
+next : (at w : ℕ) → at + suc w ≡ at + 1 + w
+next at w = omega arith
+
+-- The w bytes at a of s are those at b of t.
+abbrev pub Agree : List ℕ → List ℕ → ℕ → ℕ → ℕ → Type 0
+Agree s t a b w = (i : ℕ) → i < w → byteAt s (a + i) ≡ byteAt t (b + i)
+
+-- A number made of its first byte and the number of the others is the same where the bytes are.
+module _ (number : List ℕ → ℕ → ℕ → ℕ) (join : ℕ → ℕ → ℕ → ℕ)
+    (none : (s : List ℕ) (at : ℕ) → number s at zero ≡ 0)
+    (more : (s : List ℕ) (at w : ℕ) → number s at (suc w) ≡ join w (byteAt s at) (number s (at + 1) w)) where
+  agree : (s t : List ℕ) (a b w : ℕ) → Agree s t a b w → number s a w ≡ number t b w
+  agree s t a b zero h = none s a ∙ sym (none t b)
+  agree s t a b (suc w) h =
+      more s a w
+      ∙ ap₂ (join w) (simp add-zero at (h zero (zero-lt-suc w)))
+      (agree s t (a + 1) (b + 1) w (λ i l. simp next at (h (suc i) (omega arith))))
+      ∙ sym (more t b w)
+
+pub bigAt-agree : (s t : List ℕ) (a b w : ℕ) → Agree s t a b w → bigAt s a w ≡ bigAt t b w
+unfolding bigAt
+bigAt-agree = agree bigAt (λ w b n. b * 256 ^ w + n) (λ s at. refl) (λ s at w. refl)
+
+pub littleAt-agree : (s t : List ℕ) (a b w : ℕ) → Agree s t a b w → littleAt s a w ≡ littleAt t b w
+unfolding littleAt
+littleAt-agree = agree littleAt (λ w b n. b + 256 * n) (λ s at. refl) (λ s at w. refl)
+
+module _ (s : List ℕ) (bytes : (i : ℕ) → byteAt s i < 256) where
+  pub bigAt-below : (at w : ℕ) → bigAt s at w < 256 ^ w
+  unfolding bigAt
+  bigAt-below at zero = lit< tt
+  bigAt-below at (suc w) = rw pow-succ' (digits-lt (bytes at) (bigAt-below (at + 1) w))
+
+  pub littleAt-below : (at w : ℕ) → littleAt s at w < 256 ^ w
+  unfolding littleAt
+  littleAt-below at zero = lit< tt
+  littleAt-below at (suc w) = rw pow-suc (omega (arith, digits-lt (littleAt-below (at + 1) w) (bytes at)))
+
+-- The last byte of a big-endian number is the lowest.
+pub bigAt-last : (s : List ℕ) (at w : ℕ) → bigAt s at (suc w) ≡ bigAt s at w * 256 + byteAt s (at + w)
+unfolding bigAt
+bigAt-last s at zero = rw (add-zero at) (omega arith)
+bigAt-last s at (suc w) =
+    rw (next at w, bigAt-last s (at + 1) w, pow-suc 256 w, ← mul-assoc (byteAt s at) (256 ^ w) 256) (omega arith)
+
+-- The first byte of a little-endian number is the lowest.
+pub littleAt-first : (s : List ℕ) (at w : ℕ) → littleAt s at (suc w) ≡ littleAt s (at + 1) w * 256 + byteAt s at
+unfolding littleAt
+littleAt-first s at w = omega arith
+
+-- A number of fewer than eight bytes has room for one byte more.
+pub one-more-fits : {number byte w : ℕ} → w < 8 → number < 256 ^ w → byte < 256 → Fits w64 (number * 256 + byte)
+one-more-fits {w = w} short below b = record {
+  fits = lt-of-lt-of-le (digits-lt below b) (rw (← pow-suc 256 w) (pow-le-pow-right (lit< tt) short));
+}
+
+-- ---- parts
+
+pub partAt-length : (s : List ℕ) (at count : ℕ) → length (partAt s at count) ≡ min count (length s - at)
+partAt-length s at count = simp (length-take, length-drop)
+
+pub partAt-inside : (s : List ℕ) (at count : ℕ) → at + count ≤ length s → length (partAt s at count) ≡ count
+partAt-inside s at count h = partAt-length s at count ∙ omega arith
+
+pub partAt-byte : (s : List ℕ) (at count i : ℕ) → i < count → byteAt (partAt s at count) i ≡ byteAt s (at + i)
+partAt-byte s at count i h = getD-take count (drop at s) i 0 h ∙ getD-drop at s i 0
+
+-- What is taken or dropped past the end is not there.
+take-clipped : (n : ℕ) (l : List ℕ) → take (min n (length l)) l ≡ take n l
+take-clipped zero l = rw zero-min
+take-clipped (suc n) [] = rw min-zero
+take-clipped (suc n) (x ∷ l) = rw suc-min-suc (ap (λ (r : List ℕ). x ∷ r) (take-clipped n l))
+
+drop-clipped : (n : ℕ) (l : List ℕ) → drop (min n (length l)) l ≡ drop n l
+drop-clipped zero l = rw zero-min
+drop-clipped (suc n) [] = rw min-zero
+drop-clipped (suc n) (x ∷ l) = rw suc-min-suc (drop-clipped n l)
+
+-- A start and a count that are clipped to what is there give the same part.
+pub partAt-clipped : (s : List ℕ) (at count start n : ℕ) → start ≡ min at (length s) → n ≡ min count (length s - start) → partAt s start n ≡ partAt s at count
+partAt-clipped s at count start n p q =
+    let dropped : drop start s ≡ drop at s = rw p (drop-clipped at s) in
+    rw (q, ← length-drop start s, dropped) (take-clipped count (drop at s))
+
+-- ---- the same bytes
+
+pub sameBytes-refl : (a : List ℕ) → sameBytes a a ≡ true
+unfolding sameBytes
+sameBytes-refl [] = refl
+sameBytes-refl (x ∷ a) = rw (eq-eqb x x refl) (sameBytes-refl a)
+
+pub sameBytes-of-eq : (a b : List ℕ) → a ≡ b → sameBytes a b ≡ true
+sameBytes-of-eq a b e = subst (λ (l : List ℕ). sameBytes a l ≡ true) e (sameBytes-refl a)
+
+both : (p q : Bool) → (p && q) ≡ true → (p ≡ true) × (q ≡ true)
+both true q e = (refl, e)
+both false q e = absurd (false≢true e)
+
+pub sameBytes-eq : (a b : List ℕ) → sameBytes a b ≡ true → a ≡ b
+unfolding sameBytes
+sameBytes-eq [] [] e = refl
+sameBytes-eq [] (y ∷ b) e = absurd (false≢true e)
+sameBytes-eq (x ∷ a) [] e = absurd (false≢true e)
+sameBytes-eq (x ∷ a) (y ∷ b) e =
+    let h = both (eqb x y) (sameBytes a b) e in
+    ap₂ _∷_ (eqb-true x y (h .0)) (sameBytes-eq a b (h .1))
+
+unless : (t : Bool) → (t ≡ true → ⊥) → t ≡ false
+unless true h = absurd (h refl)
+unless false h = refl
+
+pub sameBytes-not : (a b : List ℕ) → (a ≡ b → ⊥) → sameBytes a b ≡ false
+sameBytes-not a b h = unless (sameBytes a b) (λ e. h (sameBytes-eq a b e))
+
+-- ---- zeros
+
+pub allZero-byte : (s : List ℕ) → allZero s ≡ true → (i : ℕ) → byteAt s i ≡ 0
+unfolding allZero
+allZero-byte [] e i = refl
+allZero-byte (x ∷ s) e zero = eqb-true x 0 (both (eqb x 0) (allZero s) e .0)
+allZero-byte (x ∷ s) e (suc i) = allZero-byte s (both (eqb x 0) (allZero s) e .1) i
+
+pub allZero-not : (s : List ℕ) (i : ℕ) → (byteAt s i ≡ 0 → ⊥) → allZero s ≡ false
+allZero-not s i h = unless (allZero s) (λ e. h (allZero-byte s e i))
+
+zeros : (s : List ℕ) → ((i : ℕ) → i < length s → byteAt s i ≡ 0) → s ≡ replicate (length s) 0
+zeros s h =
+    ext-getD 0 s (replicate (length s) 0) (sym (length-replicate (length s) 0))
+    (λ i l. h i l ∙ sym (getD-replicate (length s) i 0 0 l))
+
+pub allZero-eq : (s : List ℕ) → allZero s ≡ true → s ≡ replicate (length s) 0
+allZero-eq s e = zeros s (λ i l. allZero-byte s e i)
+
+pub allZero-replicate : (n : ℕ) → allZero (replicate n 0) ≡ true
+unfolding allZero
+allZero-replicate zero = refl
+allZero-replicate (suc n) = allZero-replicate n
+
+pub allZero-of-eq : (s : List ℕ) → s ≡ replicate (length s) 0 → allZero s ≡ true
+allZero-of-eq s e = subst (λ (l : List ℕ). allZero l ≡ true) (sym e) (allZero-replicate (length s))
+
+pub allZero-of-bytes : (s : List ℕ) → ((i : ℕ) → i < length s → byteAt s i ≡ 0) → allZero s ≡ true
+allZero-of-bytes s h = allZero-of-eq s (zeros s h)
+
+-- ---- bytes laid over others
+
+pub overlay-length : (to : List ℕ) (at : ℕ) (from : List ℕ) → length (overlay to at from) ≡ length to
+unfolding overlay
+overlay-length [] at from = refl
+overlay-length (x ∷ to) (suc at) from = ap suc (overlay-length to at from)
+overlay-length (x ∷ to) zero [] = refl
+overlay-length (x ∷ to) zero (y ∷ from) = ap suc (overlay-length to zero from)
+
+-- An overlay pastes what has room.
+pub overlay-paste : (to : List ℕ) (at : ℕ) (from : List ℕ) → overlay to at from ≡ paste to at from (min (length from) (length to - at))
+unfolding overlay
+overlay-paste [] at from = simp (zero-sub, min-zero, take-nil, drop-nil)
+overlay-paste (x ∷ to) (suc at) from = simp (suc-sub-suc, suc-add) (ap (λ (r : List ℕ). x ∷ r) (overlay-paste to at from))
+overlay-paste (x ∷ to) zero [] = simp zero-min
+overlay-paste (x ∷ to) zero (y ∷ from) =
+    simp (sub-zero, zero-add, suc-min-suc)
+    (ap (λ (r : List ℕ). y ∷ r) (simp (sub-zero, zero-add) at (overlay-paste to zero from)))
+
+pub overlay-inside : (to : List ℕ) (at : ℕ) (from : List ℕ) → at + length from ≤ length to → overlay to at from ≡ take at to ++ from ++ drop (at + length from) to
+overlay-inside to at from h =
+    let all : min (length from) (length to - at) ≡ length from = omega arith in
+    rw (overlay-paste to at from, all, take-length from)
+
+-- Zeros with bytes laid over them read as those bytes.
+pub overlay-zeros : (n : ℕ) (from : List ℕ) (i : ℕ) → i < n → byteAt (overlay (replicate n 0) 0 from) i ≡ byteAt from i
+unfolding overlay
+overlay-zeros zero from i h = absurd (not-suc-le-zero h)
+overlay-zeros (suc n) [] i h = getD-replicate (suc n) i 0 0 h
+overlay-zeros (suc n) (x ∷ from) zero h = refl
+overlay-zeros (suc n) (x ∷ from) (suc i) h = overlay-zeros n from i (le-of-suc-le-suc h)

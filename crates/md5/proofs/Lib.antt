@@ -1,0 +1,4 @@
+pub mod Suite
+pub mod BlockLaws
+pub mod MessageLaws
+pub mod Cutting

@@ -1,0 +1,16 @@
+-- `md5::Md5::new` is `started`.
+use mathlib.Core.Path.{refl}
+use Rattle.md5.specs.Message.{fresh, started}
+use borrow.Author.Needs.{needs}
+use Rattle.md5.proofs.Md5.new.Statement.{statement}
+use Rattle.md5.proofs.Md5.new.Tie as tie
+
+initial-requires : tie.Need-initial-requires
+initial-requires c κs = search needs
+
+returns : tie.Need-returns
+unfolding fresh started
+returns c = rw (c .initial .ensures) (refl, refl)
+
+pub new-spec : {M : Type 1} → statement M
+new-spec = tie.close (tie.spec initial-requires returns)

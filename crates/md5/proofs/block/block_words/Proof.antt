@@ -1,0 +1,68 @@
+-- `md5::block::block_words`: after i turns the first i words stand in the array.
+use mathlib.Core.Path.{_≡_, refl}
+use Prim.Native.Nat.{ℕ, suc, _+_, _-_, _*_, _≤_, _<_}
+use native.Mathlib.Omega.{arith}
+use lib.ListN.{length, take, drop, length-set}
+use borrow.Author.Needs.{needs}
+use Rattle.md5.specs.Block.{wordsOf}
+use Rattle.md5.proofs.BlockLaws.{word-stored, words-all}
+use Rattle.md5.proofs.block.block_words.Statement.{statement}
+use Rattle.md5.proofs.block.block_words.Tie as tie
+
+abbrev Inv-loop : tie.InvT-loop
+Inv-loop s at x₀ i₀ x i = (i ≤ 16) × (length x ≡ 16) × (take i x ≡ wordsOf i (drop at s))
+
+abbrev μ-loop : tie.MeasureT-loop
+μ-loop s at x₀ i₀ x i = 16 - i
+
+loop-holds : tie.Need-loop-holds Inv-loop μ-loop
+unfolding wordsOf
+loop-holds c = (search needs, refl, refl)
+
+mul-word : tie.Need-mul-word Inv-loop μ-loop
+mul-word c = search needs
+
+add-word : tie.Need-add-word Inv-loop μ-loop
+add-word c = search needs
+
+word-requires : tie.Need-word-requires Inv-loop μ-loop
+word-requires c κs = search needs
+
+mul-x : tie.Need-mul-x Inv-loop μ-loop
+mul-x c = search needs
+
+array-write-x : tie.Need-array-write-x Inv-loop μ-loop
+array-write-x c = search needs
+
+add-i : tie.Need-add-i Inv-loop μ-loop
+add-i c = search needs
+
+loop-less : tie.Need-loop-less Inv-loop μ-loop
+loop-less c = search needs
+
+loop-again : tie.Need-loop-again Inv-loop μ-loop
+loop-again c =
+    let i = c .before .before .loop .i in
+    let inv = c .before .before .loop .inv in
+    let h : i < length (c .before .before .loop .x) = omega arith in
+    (search needs, simp length-set (search needs), word-stored _ _ i _ _ h (inv .2) (c .word .ensures))
+
+returns : tie.Need-returns Inv-loop μ-loop
+returns c = words-all _ _ _ (c .loop-test .left) (c .before .loop .inv .0) (c .before .loop .inv .1) (c .before .loop .inv .2)
+
+pub block-words-spec : {M : Type 1} → statement M
+block-words-spec =
+    tie.close
+    (tie.spec
+    Inv-loop
+    μ-loop
+    loop-holds
+    mul-word
+    add-word
+    word-requires
+    mul-x
+    array-write-x
+    add-i
+    loop-less
+    loop-again
+    returns)

@@ -1,0 +1,59 @@
+//! What all subcommands share.
+
+use std::ffi::{OsStr, OsString};
+use std::fmt;
+use std::io;
+use std::process::ExitCode;
+
+use dwarnizza::Refusal;
+
+/// A subcommand.
+pub struct Command {
+    pub name: &'static str,
+    /// Its arguments, as the usage shows them.
+    pub arguments: &'static str,
+    /// What it does, in one line.
+    pub summary: &'static str,
+    pub run: fn(&[OsString]) -> Result<ExitCode, Error>,
+}
+
+/// Why a subcommand could not do what it was asked.
+pub enum Error {
+    Usage(String),
+    Read { name: OsString, error: io::Error },
+    Refused { name: OsString, refusal: Refusal },
+    Write(io::Error),
+}
+
+impl fmt::Display for Error {
+    fn fmt(&self, f: &mut fmt::Formatter<'_>) -> fmt::Result {
+        match self {
+            Error::Usage(what) => f.write_str(what),
+            Error::Read { name, error } => write!(f, "cannot read {}: {error}", name.display()),
+            Error::Refused { name, refusal } => write!(f, "{}: {refusal}", name.display()),
+            Error::Write(error) => write!(f, "cannot write: {error}"),
+        }
+    }
+}
+
+/// Says an error on standard error.
+pub fn report(error: &Error) {
+    eprintln!("dwarnizza: {error}");
+}
+
+/// The operands of a subcommand without options. After `--` they may begin with a dash.
+pub fn operands(arguments: &[OsString]) -> Result<Vec<&OsStr>, Error> {
+    let mut operands = Vec::new();
+    let mut arguments = arguments.iter().map(OsString::as_os_str);
+    for argument in arguments.by_ref() {
+        if argument == "--" {
+            break;
+        }
+        if argument != "-" && argument.as_encoded_bytes().starts_with(b"-") {
+            return Err(Error::Usage(format!("no option {}", argument.display())));
+        }
+        operands.push(argument);
+    }
+    operands.extend(arguments);
+    Ok(operands)
+}

@@ -1,0 +1,121 @@
+//! `dwarnizza md5` beside md5sum.
+
+use std::ffi::OsStr;
+use std::fs;
+use std::io::Write;
+use std::path::{Path, PathBuf};
+use std::process::{Command, Output, Stdio};
+
+/// Runs a command in a folder, with this standard input.
+fn output(mut command: Command, folder: &Path, input: &[u8]) -> Output {
+    let mut child = command
+        .current_dir(folder)
+        .stdin(Stdio::piped())
+        .stdout(Stdio::piped())
+        .stderr(Stdio::piped())
+        .spawn()
+        .expect("the command starts");
+    let mut pipe = child.stdin.take().expect("its input is a pipe");
+    pipe.write_all(input).expect("the command reads its input");
+    drop(pipe);
+    child.wait_with_output().expect("the command ends")
+}
+
+fn dwarnizza<S: AsRef<OsStr>>(arguments: impl IntoIterator<Item = S>) -> Command {
+    let mut command = Command::new(env!("CARGO_BIN_EXE_dwarnizza"));
+    command.args(arguments);
+    command
+}
+
+fn md5sum(arguments: &[&str]) -> Command {
+    let mut command = Command::new("md5sum");
+    command.args(arguments);
+    command
+}
+
+/// An empty folder for one test.
+fn folder(test: &str) -> PathBuf {
+    let folder = Path::new(env!("CARGO_TARGET_TMPDIR")).join(test);
+    let _ = fs::remove_dir_all(&folder);
+    fs::create_dir_all(&folder).expect("the folder can be made");
+    folder
+}
+
+#[test]
+fn lines_as_md5sum_has_them() {
+    let folder = folder("lines");
+    let names = [
+        "empty",
+        "two words",
+        r"back\slash",
+        "line\nfeed",
+        "return\r",
+    ];
+    for (name, length) in names.into_iter().zip([0, 1, 63, 64, 200_000]) {
+        fs::write(folder.join(name), vec![b'x'; length]).expect("the file can be written");
+    }
+    let ours = output(dwarnizza(["md5"].iter().chain(&names)), &folder, b"");
+    let theirs = output(md5sum(&names), &folder, b"");
+    assert_eq!(
+        String::from_utf8_lossy(&ours.stdout),
+        String::from_utf8_lossy(&theirs.stdout)
+    );
+    assert!(ours.status.success());
+    assert!(ours.stderr.is_empty());
+}
+
+#[test]
+fn standard_input() {
+    let folder = folder("standard_input");
+    let input = vec![7; 300_000];
+    let theirs = output(md5sum(&[]), &folder, &input);
+    for arguments in [
+        &["md5"][..],
+        &["md5", "-"],
+        &["md5", "--"],
+        &["md5", "--", "-"],
+    ] {
+        let ours = output(dwarnizza(arguments), &folder, &input);
+        assert_eq!(ours.stdout, theirs.stdout, "{arguments:?}");
+        assert!(ours.status.success());
+    }
+}
+
+#[test]
+fn a_name_that_begins_with_a_dash() {
+    let folder = folder("dash");
+    fs::write(folder.join("-x"), "abc").expect("the file can be written");
+    let ours = output(dwarnizza(["md5", "--", "-x"]), &folder, b"");
+    assert_eq!(ours.stdout, b"900150983cd24fb0d6963f7d28e17f72  -x\n");
+}
+
+#[test]
+fn a_file_that_cannot_be_read_is_named_and_the_others_go_on() {
+    let folder = folder("unreadable");
+    fs::write(folder.join("there"), "abc").expect("the file can be written");
+    let ours = output(dwarnizza(["md5", "missing", ".", "there"]), &folder, b"");
+    assert_eq!(ours.stdout, b"900150983cd24fb0d6963f7d28e17f72  there\n");
+    assert_eq!(ours.status.code(), Some(1));
+    let errors = String::from_utf8(ours.stderr).expect("errors are text");
+    let errors: Vec<_> = errors.lines().collect();
+    assert_eq!(errors.len(), 2, "{errors:?}");
+    assert!(errors[0].starts_with("dwarnizza: cannot read missing: "));
+    assert!(errors[1].starts_with("dwarnizza: cannot read .: "));
+}
+
+#[test]
+fn wrong_arguments() {
+    let folder = folder("wrong_arguments");
+    for (arguments, error) in [
+        (&[][..], "dwarnizza: a command is missing\n"),
+        (&["md6"], "dwarnizza: no command md6\n"),
+        (&["md5", "-x"], "dwarnizza: no option -x\n"),
+    ] {
+        let ours = output(dwarnizza(arguments), &folder, b"");
+        let errors = String::from_utf8(ours.stderr).expect("errors are text");
+        assert!(errors.starts_with(error), "{errors}");
+        assert!(errors.contains("usage: dwarnizza"), "{errors}");
+        assert!(ours.stdout.is_empty());
+        assert_eq!(ours.status.code(), Some(2));
+    }
+}

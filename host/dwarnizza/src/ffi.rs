@@ -1,0 +1,34 @@
+//! The exports of libdwarnizza.a, as `include/dwarnizza.h` has them.
+
+unsafe extern "C" {
+    pub fn dwarnizza_md5(
+        data: *const u8,
+        data_len: usize,
+        digest: &mut [u8; 16],
+        answer: &mut [u64; 8],
+    ) -> u32;
+
+    pub safe fn dwarnizza_md5_start(
+        words: &mut [u32; 4],
+        pending: &mut [u8; 64],
+        count: &mut u64,
+        answer: &mut [u64; 8],
+    ) -> u32;
+
+    pub fn dwarnizza_md5_update(
+        part: *const u8,
+        part_len: usize,
+        words: &mut [u32; 4],
+        pending: &mut [u8; 64],
+        count: &mut u64,
+        answer: &mut [u64; 8],
+    ) -> u32;
+
+    pub safe fn dwarnizza_md5_finish(
+        words: &[u32; 4],
+        pending: &[u8; 64],
+        count: u64,
+        digest: &mut [u8; 16],
+        answer: &mut [u64; 8],
+    ) -> u32;
+}

@@ -1,0 +1,12 @@
+//! Safe calls into Dwarnizza, the proved library that reads and writes CASC/TACT files.
+//!
+//! Each function here makes one call of the C interface (`include/dwarnizza.h`) and turns its
+//! answer into Rust's own terms. What the library refuses comes back as a [`Refusal`].
+
+mod answer;
+mod ffi;
+mod md5;
+pub mod refusal;
+
+pub use md5::{Md5, md5};
+pub use refusal::{Link, Refusal};

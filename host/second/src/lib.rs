@@ -1,0 +1,10 @@
+//! The second program: what Dwarnizza does, written again from document 01 and its sources alone.
+//!
+//! It shares no code and no table with the proved library, so that tests can hold the two against
+//! each other. One module for each format.
+
+#![forbid(unsafe_code)]
+
+pub mod md5;
+pub mod md5_suite;
+pub mod refusal;

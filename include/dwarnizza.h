@@ -1,0 +1,112 @@
+/*
+ * Dwarnizza reads and writes CASC/TACT files. This is the C interface of its
+ * static library, libdwarnizza.a.
+ *
+ * Every function keeps one convention.
+ *
+ * Arguments. First come the inputs: bytes as a pointer and a length, and
+ * numbers. Then come the outputs, and last the answer, eight 64-bit words. No
+ * pointer is NULL, not even where its length is 0, and no output overlaps
+ * another argument. An input may be shared with other threads for reading.
+ *
+ * Result. DWARNIZZA_ANSWERED, DWARNIZZA_ABSENT or DWARNIZZA_REFUSED. Each call
+ * writes all eight words of the answer; a word that the case at hand does not
+ * name is 0. A refusal names three:
+ *
+ *     answer[0]  the number of the refusal, which says what was wrong
+ *     answer[1]  its place: the page, entry, chunk, .. (0 where none is named)
+ *     answer[2]  the link of the chain that refused: 1 root, 2 encoding,
+ *                3 index (0 outside a chain)
+ *
+ * After a refusal the outputs other than the answer keep their bytes.
+ *
+ * The library allocates nothing and keeps nothing between calls.
+ */
+#ifndef DWARNIZZA_H
+#define DWARNIZZA_H
+
+#include <stddef.h>
+#include <stdint.h>
+
+#ifdef __cplusplus
+extern "C" {
+#endif
+
+/* The results. */
+enum {
+    DWARNIZZA_ANSWERED = 0, /* passed, found or written */
+    DWARNIZZA_ABSENT = 1,
+    DWARNIZZA_REFUSED = 2
+};
+
+/* The numbers of refusal. */
+enum {
+    DWARNIZZA_HASH_LIMIT = 50 /* more than 2^48 bytes hashed */
+};
+
+/*
+ * MD5 (RFC 1321)
+ *
+ * Input is at most 2^48 bytes in all. Data at hand in one piece takes one
+ * call:
+ *
+ *     dwarnizza_md5(data, data_len, digest, answer);
+ *
+ * Data that comes in parts goes through a state, which the caller keeps. Any
+ * cutting into parts, empty ones too, gives the digest of the whole:
+ *
+ *     struct dwarnizza_md5_state s;
+ *     dwarnizza_md5_start(s.words, s.pending, &s.count, answer);
+ *     while (there is a part)
+ *         if (dwarnizza_md5_update(part, part_len, s.words, s.pending,
+ *                                  &s.count, answer) != DWARNIZZA_ANSWERED)
+ *             the part passes the limit: answer[0] is 50;
+ *     dwarnizza_md5_finish(s.words, s.pending, s.count, digest, answer);
+ *
+ * Every value of a state may be given to update and finish. To copy a state is
+ * to copy its three fields.
+ */
+struct dwarnizza_md5_state {
+    uint32_t words[4];   /* A, B, C, D of RFC 1321 after the whole blocks so far */
+    uint8_t pending[64]; /* the first count % 64 are the bytes after those blocks */
+    uint64_t count;      /* all bytes so far */
+};
+
+/*
+ * The digest of data.
+ * Answered: digest is written; no word of the answer is named.
+ * Refused: 50 where data_len is above 2^48.
+ */
+uint32_t dwarnizza_md5(const uint8_t *data, size_t data_len, uint8_t digest[16],
+                       uint64_t answer[8]);
+
+/*
+ * The state before the first part.
+ * Answered always: the state is written; no word of the answer is named.
+ */
+uint32_t dwarnizza_md5_start(uint32_t words[4], uint8_t pending[64],
+                             uint64_t *count, uint64_t answer[8]);
+
+/*
+ * The state after one more part.
+ * Answered: the state is written; no word of the answer is named.
+ * Refused: 50 where *count and part_len together are above 2^48.
+ */
+uint32_t dwarnizza_md5_update(const uint8_t *part, size_t part_len,
+                              uint32_t words[4], uint8_t pending[64],
+                              uint64_t *count, uint64_t answer[8]);
+
+/*
+ * The digest of all parts so far. The state is only read, so that further
+ * parts may follow.
+ * Answered always: digest is written; no word of the answer is named.
+ */
+uint32_t dwarnizza_md5_finish(const uint32_t words[4], const uint8_t pending[64],
+                              uint64_t count, uint8_t digest[16],
+                              uint64_t answer[8]);
+
+#ifdef __cplusplus
+}
+#endif
+
+#endif
