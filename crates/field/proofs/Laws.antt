@@ -3,12 +3,12 @@ use mathlib.Core.Path.{_≡_, refl, sym, ap, ap₂, _∙_, subst}
 use mathlib.Core.Bool.{Bool, true, false, _&&_, false≢true}
 use mathlib.Core.List.{List, [], _∷_, _++_}
 use Prim.Native.Nat.{ℕ, zero, suc, _+_, _-_, _*_, _^_, _≤_, _<_, min}
-use native.Mathlib.Nat.{add-zero, suc-add, zero-add, mul-assoc, pow-suc, pow-succ', pow-le-pow-right, lt-of-lt-of-le, not-suc-le-zero, le-of-suc-le-suc, zero-lt-suc, zero-sub, sub-zero, suc-sub-suc, zero-min, min-zero, suc-min-suc}
+use native.Mathlib.Nat.{add-zero, suc-add, zero-add, mul-assoc, pow-suc, pow-succ', pow-le-pow-right, lt-of-lt-of-le, not-suc-le-zero, le-of-suc-le-suc, zero-lt-suc, zero-sub, sub-zero, suc-sub-suc, zero-min, min-zero, suc-min-suc, le-of-eq}
 use native.Mathlib.Omega.{arith}
 use lib.Arith.{digits-lt}
 use lib.Dec.{eqb, lit<}
 use lib.ListN.{length, take, drop, replicate, length-take, length-drop, length-replicate, getD-replicate}
-use lib.Seq.{take-nil, drop-nil, take-length, getD-take, getD-drop, ext-getD, paste}
+use lib.Seq.{take-nil, drop-nil, take-length, take-all, getD-take, getD-drop, ext-getD, paste}
 use mir.Syntax.{w64}
 use mir.Val.{Fits}
 use borrow.Author.Tests.{eq-eqb, eqb-true}
@@ -80,6 +80,10 @@ partAt-length s at count = simp (length-take, length-drop)
 
 pub partAt-inside : (s : List ℕ) (at count : ℕ) → at + count ≤ length s → length (partAt s at count) ≡ count
 partAt-inside s at count h = partAt-length s at count ∙ omega arith
+
+-- the rest of a list, as a part that starts in it is lent
+pub part-to-end : (at : ℕ) (s : List ℕ) → take (length s - at) (drop at s) ≡ drop at s
+part-to-end at s = take-all (length s - at) (drop at s) (le-of-eq (length-drop at s))
 
 pub partAt-byte : (s : List ℕ) (at count i : ℕ) → i < count → byteAt (partAt s at count) i ≡ byteAt s (at + i)
 partAt-byte s at count i h = getD-take count (drop at s) i 0 h ∙ getD-drop at s i 0

@@ -2,3 +2,4 @@ pub mod Suite
 pub mod BlockLaws
 pub mod MessageLaws
 pub mod Cutting
+pub mod Choice

@@ -3,7 +3,7 @@ use mathlib.Core.Path.{_≡_, refl, sym, ap, ap₂, _∙_}
 use mathlib.Core.Bool.{Bool, true, false, not}
 use mathlib.Core.List.{List, [], _∷_, _++_, append-assoc, append-nil}
 use Prim.Native.Nat.{ℕ, zero, suc, _+_, _-_, _*_, _/_, _%_, _^_, _≤_, _<_}
-use native.Mathlib.Nat.{add-zero, zero-add, suc-add, le-of-eq}
+use native.Mathlib.Nat.{add-zero, zero-add, suc-add}
 use native.Mathlib.Numerals.{add-one, one-add}
 use native.Mathlib.Omega.{arith}
 use borrow.Author.Tests.{lt-ltb, le-ltb, leb-true, leb-false}
@@ -272,7 +272,3 @@ bytes-from zero i l h = refl
 bytes-from (suc n) i l h =
     let inside : i < length l = omega arith in
     ap (λ r. getD l i 0 ∷ r) (bytes-from n (i + 1) l (omega arith) ∙ ap (λ k. take n (drop k l)) (add-one i)) ∙ ap (take (suc n)) (sym (drop-cons l i 0 inside))
-
--- the rest of a list, as a part that starts in it is lent
-pub part-to-end : (i : ℕ) (l : List ℕ) → take (length l - i) (drop i l) ≡ drop i l
-part-to-end i l = take-all (length l - i) (drop i l) (le-of-eq (length-drop i l))

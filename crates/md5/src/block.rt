@@ -84,12 +84,12 @@ pub(crate) const ADDENDS: [u32; 64] = [
 // The shift amounts, by the round and the step's place in a group of four.
 const SHIFTS: [u32; 16] = [7, 12, 17, 22, 5, 9, 14, 20, 4, 11, 16, 23, 6, 10, 15, 21];
 
-// F, G, H and I of RFC 1321, by the round.
+// F, G, H and I of RFC 1321, by the round. F is written with one operation less after b, on which the next step waits.
 fn mix(round: usize, b: u32, c: u32, d: u32) -> u32
     ensures { λ r. ⌜ r ≡ spec.mixed round b c d ⌝ }
 {
     if round == 0 {
-        return (b & c) | (!b & d);
+        return d ^ (b & (c ^ d));
     }
     if round == 1 {
         return (b & d) | (c & !d);

@@ -4,7 +4,8 @@ use Prim.Native.Nat.{_-_, _*_, _/_, _%_}
 use lib.ListN.{length, take, drop}
 use lib.Seq.{length-take-le}
 use Rattle.field.specs.Part.{overlay}
-use Rattle.md5.proofs.MessageLaws.{absorb-short, absorb-long, part-to-end}
+use Rattle.field.proofs.Laws.{part-to-end}
+use Rattle.md5.proofs.MessageLaws.{absorb-short, absorb-long}
 use borrow.Author.Needs.{needs}
 use Rattle.md5.proofs.absorb.Statement.{statement}
 use Rattle.md5.proofs.absorb.Tie as tie

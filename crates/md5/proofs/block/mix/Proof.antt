@@ -1,12 +1,16 @@
 -- `md5::block::mix` is `mixed`: a case for each round.
 use Rattle.md5.specs.Block.{mixed}
+use borrow.Author.Needs.{needs}
+use Rattle.md5.proofs.Choice.{choice}
 use Rattle.md5.proofs.BlockLaws.{past-two}
 use Rattle.md5.proofs.block.mix.Statement.{statement}
 use Rattle.md5.proofs.block.mix.Tie as tie
 
 returns : tie.Need-returns
 unfolding mixed
-returns c = rw (c .if1 .taken)
+returns c =
+    let a = c .before .args in
+    rw (c .if1 .taken) (choice 32 (a .b) (a .c) (a .d) (search needs) (search needs) (search needs))
 
 returns-2 : tie.Need-returns-2
 unfolding mixed
