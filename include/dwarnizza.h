@@ -41,7 +41,17 @@ enum {
 
 /* The numbers of refusal. */
 enum {
-    DWARNIZZA_HASH_LIMIT = 50 /* more than 2^48 bytes hashed */
+    DWARNIZZA_INDEX_SHORT = 1,     /* index under 28 bytes */
+    DWARNIZZA_FOOTER_FIELD = 2,    /* a footer field outside its list */
+    DWARNIZZA_FOOTER_HASH = 3,     /* footer hash wrong */
+    DWARNIZZA_ENTRY_COUNT = 4,     /* more than 8,388,608 entries */
+    DWARNIZZA_INDEX_LENGTH = 5,    /* file length wrong */
+    DWARNIZZA_INDEX_PAGE_HASH = 6, /* page hash wrong; place: page */
+    DWARNIZZA_INDEX_PADDING = 7,   /* padding not zero; place: page */
+    DWARNIZZA_INDEX_ORDER = 8,     /* key not above the one before; place: entry */
+    DWARNIZZA_LAST_KEY = 9,        /* stored last key wrong; place: page */
+    DWARNIZZA_OUTPUT_SHORT = 13,   /* output shorter than what is to be written */
+    DWARNIZZA_HASH_LIMIT = 50      /* more than 2^48 bytes hashed */
 };
 
 /*
@@ -103,6 +113,46 @@ uint32_t dwarnizza_md5_update(const uint8_t *part, size_t part_len,
  */
 uint32_t dwarnizza_md5_finish(const uint32_t words[4], const uint8_t pending[64],
                               uint64_t count, uint8_t digest[16],
+                              uint64_t answer[8]);
+
+/*
+ * Archive index
+ *
+ * An archive index gives for each encoding key its encoded size and location.
+ * It is n entries on P pages of 4,096 bytes, then the last key of each page,
+ * the hash of each page, and a footer of 28 bytes. An entry is a key of K
+ * bytes, the encoded size in 4 and the location in W. Keys rise through the
+ * whole file. Pages and entries count from 0, entries through the whole file.
+ *
+ * The full check refuses with the first that holds, in this order:
+ *
+ *     1, 2, 3, 4, 5   the file is too short, or its footer or length is wrong
+ *     page by page:
+ *     6, 7            the page's hash is wrong, its padding is not zero
+ *     8               a key on it is not above the one before
+ *     9               its stored last key is wrong
+ *
+ * The list of an index is its entries' bytes, in order, with nothing between:
+ * n * (K + 4 + W) bytes, fewer than the index has.
+ */
+
+/*
+ * The full check of an index.
+ * Answered: it passes; answer[0] is the version, [1] W, [2] K, [3] n, [4] P.
+ * Refused: as the full check refuses.
+ */
+uint32_t dwarnizza_index_check(const uint8_t *index, size_t index_len,
+                               uint64_t answer[8]);
+
+/*
+ * The list of an index.
+ * Answered: the list is written at the start of output, and the bytes past it
+ * stay; answer[0] is how many were written.
+ * Refused: as the full check refuses; then 13 where output_len is below the
+ * length of the list.
+ */
+uint32_t dwarnizza_index_list(const uint8_t *index, size_t index_len,
+                              uint8_t *output, size_t output_len,
                               uint64_t answer[8]);
 
 #ifdef __cplusplus

@@ -7,8 +7,8 @@ use native.Mathlib.Nat.{add-zero, suc-add, zero-add, mul-assoc, pow-suc, pow-suc
 use native.Mathlib.Omega.{arith}
 use lib.Arith.{digits-lt}
 use lib.Dec.{eqb, lit<}
-use lib.ListN.{length, take, drop, replicate, length-take, length-drop, length-replicate, getD-replicate}
-use lib.Seq.{take-nil, drop-nil, take-length, take-all, getD-take, getD-drop, ext-getD, paste}
+use lib.ListN.{length, take, drop, replicate, length-append, length-take, length-drop, length-replicate, getD-replicate}
+use lib.Seq.{take-append-seam, drop-append-add, drop-drop, take-nil, drop-nil, take-length, take-all, getD-take, getD-drop, ext-getD, paste}
 use mir.Syntax.{w64}
 use mir.Val.{Fits}
 use borrow.Author.Tests.{eq-eqb, eqb-true}
@@ -196,3 +196,15 @@ overlay-zeros zero from i h = absurd (not-suc-le-zero h)
 overlay-zeros (suc n) [] i h = getD-replicate (suc n) i 0 0 h
 overlay-zeros (suc n) (x ∷ from) zero h = refl
 overlay-zeros (suc n) (x ∷ from) (suc i) h = overlay-zeros n from i (le-of-suc-le-suc h)
+
+-- A list that is written from its start, one part more.
+pub overlay-next : (done part out old : List ℕ) (to : ℕ) → old ≡ done ++ drop (length done) out → to ≡ length done → length (done ++ part) ≤ length out
+    → overlay old to part ≡ (done ++ part) ++ drop (length (done ++ part)) out
+overlay-next done part out old to e t room =
+    let both : length (done ++ part) ≡ length done + length part = length-append done part in
+    let long : length old ≡ length out = ap length e ∙ length-append done (drop (length done) out) ∙ ap (λ n. length done + n) (length-drop (length done) out) ∙ omega arith in
+    let inside : to + length part ≤ length old = omega arith in
+    let front : take to old ≡ done = rw (e, t) (take-append-seam done (drop (length done) out)) in
+    let back : drop (to + length part) old ≡ drop (length (done ++ part)) out =
+    rw (e, t, both) (drop-append-add done (drop (length done) out) (length part) ∙ drop-drop (length part) (length done) out) in
+    overlay-inside old to part inside ∙ ap₂ (λ a b. a ++ part ++ b) front back

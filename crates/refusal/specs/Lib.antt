@@ -1,3 +1,4 @@
 pub mod Number
 pub mod Check
 pub mod Outcome
+pub mod Output

@@ -1,21 +1,32 @@
 //! Benchmarks: the library beside OpenSSL and the second program, all in one run.
 //!
-//! One module for each benchmark. Run with `cargo run --release --offline -p bench -- md5`.
+//! One module for each benchmark. Run with `cargo run --release --offline -p bench -- NAME`.
 
+mod index;
 mod md5;
 mod measure;
 
 use std::env;
 use std::process::ExitCode;
 
+/// Each benchmark by its name.
+const BENCHMARKS: [(&str, fn()); 2] = [("md5", md5::run), ("index", index::run)];
+
 fn main() -> ExitCode {
     let arguments: Vec<_> = env::args_os().skip(1).collect();
-    match arguments.as_slice() {
-        [name] if name == "md5" => md5::run(),
-        _ => {
-            eprintln!("usage: bench md5");
-            return ExitCode::from(2);
+    let benchmark = match arguments.as_slice() {
+        [wanted] => BENCHMARKS.iter().find(|(name, _)| wanted == name),
+        _ => None,
+    };
+    match benchmark {
+        Some((_, run)) => {
+            run();
+            ExitCode::SUCCESS
+        }
+        None => {
+            let names = BENCHMARKS.map(|(name, _)| name).join(" | ");
+            eprintln!("usage: bench {names}");
+            ExitCode::from(2)
         }
     }
-    ExitCode::SUCCESS
 }

@@ -2,7 +2,8 @@
 
 use std::ffi::{OsStr, OsString};
 use std::fmt;
-use std::io;
+use std::fs;
+use std::io::{self, Read};
 use std::process::ExitCode;
 
 use dwarnizza::Refusal;
@@ -20,8 +21,20 @@ pub struct Command {
 /// Why a subcommand could not do what it was asked.
 pub enum Error {
     Usage(String),
-    Read { name: OsString, error: io::Error },
-    Refused { name: OsString, refusal: Refusal },
+    Read {
+        name: OsString,
+        error: io::Error,
+    },
+    Refused {
+        name: OsString,
+        refusal: Refusal,
+    },
+    /// A new file could not be made or filled.
+    Create {
+        name: OsString,
+        error: io::Error,
+    },
+    /// Standard output could not be written.
     Write(io::Error),
 }
 
@@ -31,6 +44,9 @@ impl fmt::Display for Error {
             Error::Usage(what) => f.write_str(what),
             Error::Read { name, error } => write!(f, "cannot read {}: {error}", name.display()),
             Error::Refused { name, refusal } => write!(f, "{}: {refusal}", name.display()),
+            Error::Create { name, error } => {
+                write!(f, "cannot write {}: {error}", name.display())
+            }
             Error::Write(error) => write!(f, "cannot write: {error}"),
         }
     }
@@ -56,4 +72,18 @@ pub fn operands(arguments: &[OsString]) -> Result<Vec<&OsStr>, Error> {
     }
     operands.extend(arguments);
     Ok(operands)
+}
+
+/// The bytes of the file of this name; `-` is standard input.
+pub fn read(name: &OsStr) -> Result<Vec<u8>, Error> {
+    let bytes = if name == "-" {
+        let mut bytes = Vec::new();
+        io::stdin().lock().read_to_end(&mut bytes).map(|_| bytes)
+    } else {
+        fs::read(name)
+    };
+    bytes.map_err(|error| Error::Read {
+        name: name.to_owned(),
+        error,
+    })
 }

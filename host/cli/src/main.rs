@@ -2,7 +2,9 @@
 
 #![forbid(unsafe_code)]
 
+mod check;
 mod command;
+mod list;
 mod md5;
 
 use std::env;
@@ -12,7 +14,7 @@ use std::process::ExitCode;
 
 use command::{Command, Error, report};
 
-const COMMANDS: &[Command] = &[md5::COMMAND];
+const COMMANDS: &[Command] = &[check::COMMAND, list::COMMAND, md5::COMMAND];
 
 fn main() -> ExitCode {
     let arguments: Vec<OsString> = env::args_os().skip(1).collect();

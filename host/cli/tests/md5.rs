@@ -1,44 +1,16 @@
 //! `dwarnizza md5` beside md5sum.
 
-use std::ffi::OsStr;
+mod run;
+
 use std::fs;
-use std::io::Write;
-use std::path::{Path, PathBuf};
-use std::process::{Command, Output, Stdio};
+use std::process::Command;
 
-/// Runs a command in a folder, with this standard input.
-fn output(mut command: Command, folder: &Path, input: &[u8]) -> Output {
-    let mut child = command
-        .current_dir(folder)
-        .stdin(Stdio::piped())
-        .stdout(Stdio::piped())
-        .stderr(Stdio::piped())
-        .spawn()
-        .expect("the command starts");
-    let mut pipe = child.stdin.take().expect("its input is a pipe");
-    pipe.write_all(input).expect("the command reads its input");
-    drop(pipe);
-    child.wait_with_output().expect("the command ends")
-}
-
-fn dwarnizza<S: AsRef<OsStr>>(arguments: impl IntoIterator<Item = S>) -> Command {
-    let mut command = Command::new(env!("CARGO_BIN_EXE_dwarnizza"));
-    command.args(arguments);
-    command
-}
+use run::{dwarnizza, folder, output};
 
 fn md5sum(arguments: &[&str]) -> Command {
     let mut command = Command::new("md5sum");
     command.args(arguments);
     command
-}
-
-/// An empty folder for one test.
-fn folder(test: &str) -> PathBuf {
-    let folder = Path::new(env!("CARGO_TARGET_TMPDIR")).join(test);
-    let _ = fs::remove_dir_all(&folder);
-    fs::create_dir_all(&folder).expect("the folder can be made");
-    folder
 }
 
 #[test]

@@ -5,6 +5,10 @@ use crate::refusal::{Link, Refusal};
 const ANSWERED: u32 = 0;
 const REFUSED: u32 = 2;
 
+/// An answer that no call leaves.
+#[cfg(test)]
+pub const UNWRITTEN: [u64; 8] = [u64::MAX; 8];
+
 /// Makes a call that answers or refuses, and gives the words of its answer.
 pub fn answered(call: impl FnOnce(&mut [u64; 8]) -> u32) -> Result<[u64; 8], Refusal> {
     let mut words = [0; 8];

@@ -31,4 +31,14 @@ unsafe extern "C" {
         digest: &mut [u8; 16],
         answer: &mut [u64; 8],
     ) -> u32;
+
+    pub fn dwarnizza_index_check(index: *const u8, index_len: usize, answer: &mut [u64; 8]) -> u32;
+
+    pub fn dwarnizza_index_list(
+        index: *const u8,
+        index_len: usize,
+        output: *mut u8,
+        output_len: usize,
+        answer: &mut [u64; 8],
+    ) -> u32;
 }

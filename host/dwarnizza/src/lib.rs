@@ -5,6 +5,7 @@
 
 mod answer;
 mod ffi;
+pub mod index;
 mod md5;
 pub mod refusal;
 

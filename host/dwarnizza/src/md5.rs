@@ -112,10 +112,8 @@ impl Default for Md5 {
 #[cfg(test)]
 mod tests {
     use super::*;
+    use crate::answer::UNWRITTEN;
     use crate::refusal::HASH_LIMIT;
-
-    /// Words that no call leaves.
-    const UNWRITTEN: [u64; 8] = [u64::MAX; 8];
 
     #[test]
     fn each_call_writes_the_whole_answer() {

@@ -5,6 +5,7 @@
 
 #![forbid(unsafe_code)]
 
+pub mod index;
 pub mod md5;
 pub mod md5_suite;
 pub mod refusal;

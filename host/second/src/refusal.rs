@@ -9,8 +9,63 @@ pub struct Refusal {
     pub place: u64,
 }
 
+const fn refusal(number: u32) -> Refusal {
+    Refusal { number, place: 0 }
+}
+
+fn refusal_at(number: u32, place: usize) -> Refusal {
+    Refusal {
+        number,
+        place: place as u64,
+    }
+}
+
+/// Index under 28 bytes.
+pub const INDEX_TOO_SHORT: Refusal = refusal(1);
+
+/// A footer field outside its list.
+pub const FOOTER_FIELD: Refusal = refusal(2);
+
+/// Footer hash wrong.
+pub const FOOTER_HASH: Refusal = refusal(3);
+
+/// More than 8,388,608 entries.
+pub const TOO_MANY_ENTRIES: Refusal = refusal(4);
+
+/// File length wrong.
+pub const FILE_LENGTH: Refusal = refusal(5);
+
+/// Page hash wrong.
+pub fn page_hash(page: usize) -> Refusal {
+    refusal_at(6, page)
+}
+
+/// Padding not zero.
+pub fn padding(page: usize) -> Refusal {
+    refusal_at(7, page)
+}
+
+/// Key not above the one before.
+pub fn order(entry: usize) -> Refusal {
+    refusal_at(8, entry)
+}
+
+/// Stored last key wrong.
+pub fn last_key(page: usize) -> Refusal {
+    refusal_at(9, page)
+}
+
+/// Sought key not K bytes.
+pub const SOUGHT_KEY_LENGTH: Refusal = refusal(10);
+
+/// Settings wrong.
+pub const SETTINGS: Refusal = refusal(11);
+
+/// List not whole entries.
+pub const LIST_NOT_WHOLE: Refusal = refusal(12);
+
+/// Output shorter than the file or list to be written.
+pub const OUTPUT_TOO_SHORT: Refusal = refusal(13);
+
 /// More than 2^48 bytes hashed.
-pub const TOO_MUCH_HASHED: Refusal = Refusal {
-    number: 50,
-    place: 0,
-};
+pub const TOO_MUCH_HASHED: Refusal = refusal(50);

@@ -1,0 +1,62 @@
+-- `dwarnizza::indexes::dwarnizza_index_check`: what `index::check` answers, laid out.
+use mathlib.Core.Path.{refl, sym, ap, _∙_}
+use Rattle.index.specs.Check.{told, outcome}
+use Rattle.dwarnizza.specs.Answer.{result, wordsOf}
+use borrow.Author.Needs.{needs}
+use Rattle.dwarnizza.proofs.indexes.dwarnizza_index_check.Statement.{statement}
+use Rattle.dwarnizza.proofs.indexes.dwarnizza_index_check.Tie as tie
+
+check-requires : tie.Need-check-requires
+check-requires c κs = search needs
+
+enum-known-r : tie.Need-enum-known-r
+enum-known-r c = search needs
+
+refused-requires : tie.Need-refused-requires
+refused-requires c κs = search needs
+
+enum-known-l : tie.Need-enum-known-l
+enum-known-l c = search needs
+
+cast-version : tie.Need-cast-version
+cast-version c = search needs
+
+cast-offset : tie.Need-cast-offset
+cast-offset c = search needs
+
+cast-key : tie.Need-cast-key
+cast-key c = search needs
+
+cast-entries : tie.Need-cast-entries
+cast-entries c = search needs
+
+cast-pages : tie.Need-cast-pages
+cast-pages c = search needs
+
+returns : tie.Need-returns
+unfolding outcome
+returns c =
+    let e = sym (ap outcome (c .before .before .before .r .given .1)) ∙ c .before .before .before .before .before .check .ensures in
+    (c .refused .ensures .0 ∙ ap result e, c .refused .ensures .1 ∙ ap wordsOf e)
+
+returns-2 : tie.Need-returns-2
+unfolding outcome told result wordsOf
+returns-2 c =
+    let e = sym (ap outcome (c .before .before .before .before .before .before .before .l .given .1)) ∙ c .before .before .before .before .before .before .before .before .before .check .ensures in
+    (ap result e, ap wordsOf e)
+
+pub dwarnizza-index-check-spec : {M : Type 1} → statement M
+dwarnizza-index-check-spec =
+    tie.close
+    (tie.spec
+    check-requires
+    enum-known-r
+    refused-requires
+    enum-known-l
+    cast-version
+    cast-offset
+    cast-key
+    cast-entries
+    cast-pages
+    returns
+    returns-2)

@@ -1,0 +1,32 @@
+// How an answer is laid out.
+use refusal::Refusal;
+use refusal::Verdict;
+ghost use mathlib.Core.Path.{_≡_};
+ghost use Rattle.refusal.specs.Check.{checkOf};
+ghost use Rattle.refusal.specs.Outcome.{refusal};
+ghost use Rattle.dwarnizza.specs.Answer.{result, wordsOf, told};
+
+// Lays out a refusal.
+pub(crate) fn refused(r: Refusal, answer: &mut [u64; 8]) -> u32
+    ensures { λ n. ⌜ n ≡ result (refusal (r .number) (r .place)) ⌝ }
+    ensures { λ _. ⌜ now (answer .exit) ≡ wordsOf (refusal (r .number) (r .place)) ⌝ }
+{
+    let number = r.number as u64;
+    let place = r.place as u64;
+    *answer = [number, place, 0, 0, 0, 0, 0, 0];
+    2
+}
+
+// Lays out the answer of a check that has no values to tell.
+pub(crate) fn tell(verdict: Verdict, answer: &mut [u64; 8]) -> u32
+    ensures { λ r. ⌜ r ≡ result (told (checkOf verdict)) ⌝ }
+    ensures { λ _. ⌜ now (answer .exit) ≡ wordsOf (told (checkOf verdict)) ⌝ }
+{
+    match verdict {
+        Verdict::Passed => {
+            *answer = [0u64; 8];
+            0
+        }
+        Verdict::Refused(r) => refused(r, answer),
+    }
+}

@@ -1,0 +1,60 @@
+// The list of an index: its entries' bytes, in order, with nothing between.
+use field::copy;
+use field::part;
+use index::Checked;
+use index::Layout;
+use index::Page;
+use refusal::OUTPUT_SHORT;
+use refusal::Refusal;
+ghost use mathlib.Core.Path.{_≡_};
+ghost use Prim.Native.Nat.{_≤_};
+ghost use lib.ListN.{length};
+ghost use Rattle.refusal.specs.Check.{silent};
+ghost use Rattle.refusal.specs.Output.{filled};
+ghost use Rattle.index.specs.Entries as entries;
+ghost use Rattle.entries.specs.List as spec;
+
+// What listing answers: the bytes written, or a refusal.
+pub enum Listed {
+    Written(usize),
+    Refused(Refusal),
+}
+
+// Copies the entries of each page, one page after the other.
+fn fill(index: &[u8], l: Layout, output: &mut [u8])
+    requires { ⌜ length (entries.listFrom (now index) l 0 (l .pages)) ≤ length (now output) ⌝ }
+    ensures { λ _. ⌜ now (output .exit) ≡ filled silent (entries.listFrom (now (index .entry)) l 0 (l .pages)) (now (output .entry)) ⌝ }
+{
+    let size = l.entry_size();
+    let pages = l.pages;
+    let mut to = 0;
+    let mut p = 0;
+    while p < pages {
+        let bytes = l.on_page(Page(p)) * size;
+        let page = part(index, p as usize * 4096, bytes);
+        copy(page, output, to);
+        to += page.len();
+        p += 1;
+    }
+}
+
+// Writes the list of a checked index into the output.
+pub fn list(index: &[u8], output: &mut [u8]) -> Listed
+    ensures { λ r. ⌜ spec.outcome r ≡ spec.listOutcome (now (index .entry)) (length (now (output .entry))) ⌝ }
+    ensures { λ _. ⌜ now (output .exit) ≡ filled (spec.listCheck (now (index .entry)) (length (now (output .entry)))) (entries.listOf (now (index .entry))) (now (output .entry)) ⌝ }
+{
+    match index::check(index) {
+        Checked::Refused(r) => Listed::Refused(r),
+        Checked::Passed(l) => {
+            let bytes = l.entries as usize * l.entry_size();
+            if output.len() < bytes {
+                return Listed::Refused(Refusal {
+                    number: OUTPUT_SHORT,
+                    place: 0,
+                });
+            }
+            fill(index, l, output);
+            Listed::Written(bytes)
+        }
+    }
+}

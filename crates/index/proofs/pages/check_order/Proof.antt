@@ -1,0 +1,77 @@
+-- `index::pages::check_order`: the first entry, then the rest.
+use mathlib.Core.Path.{_≡_, sym, ap, _∙_}
+use Prim.Native.Nat.{_+_, _-_, _*_, _<_}
+use native.Mathlib.Nat.{add-zero, sub-zero}
+use native.Mathlib.Omega.{arith}
+use Rattle.refusal.specs.Check.{refused, firstFrom, checkOf}
+use Rattle.refusal.specs.Number.{index-order}
+use Rattle.refusal.proofs.Laws.{from-none}
+use Rattle.index.specs.Layout.{full, onPage}
+use Rattle.index.specs.Check.{orderCheck}
+use Rattle.index.proofs.Laws.{bound, order-said, order-quiet}
+use borrow.Author.Needs.{needs}
+use Rattle.index.proofs.pages.check_order.Statement.{statement}
+use Rattle.index.proofs.pages.check_order.Tie as tie
+
+on-page-requires : tie.Need-on-page-requires
+on-page-requires c κs = search needs
+
+returns : tie.Need-returns
+unfolding checkOf
+returns c =
+    let a = c .before .before .before .args in
+    let none : onPage (a .l) (a .page .0) ≡ 0 = sym (c .before .on-page .ensures) ∙ c .if1 .taken in
+    rw none (sym (from-none (orderCheck (a .index .now) (a .l) (a .page .0)) 0))
+
+first-above-requires : tie.Need-first-above-requires
+first-above-requires c κs = search needs
+
+cast-refuse : tie.Need-cast-refuse
+cast-refuse c = search needs
+
+full-requires : tie.Need-full-requires
+full-requires c κs = search needs
+
+mul-refuse : tie.Need-mul-refuse
+mul-refuse c = omega (arith, bound (c .before .before .before .before .before .before .before .args .page .0) (c .full .result) 4294967295 1024 (omega arith) (omega arith))
+
+refuse-requires : tie.Need-refuse-requires
+refuse-requires c κs = search needs
+
+returns-2 : tie.Need-returns-2
+returns-2 c =
+    let a = c .before .before .before .before .before .before .before .before .args in
+    let p = a .page .0 in
+    let n = onPage (a .l) p in
+    let some : 0 < n = rw (← c .before .before .before .before .before .before .on-page .ensures) (omega arith) in
+    c .refuse .ensures ∙ ap (λ f. refused index-order (p * f)) (c .before .full .ensures .0) ∙ ap (refused index-order) (sym (add-zero (p * full (a .l))))
+    ∙ sym (order-said (a .index .now) (a .l) p 0 n (c .before .before .before .before .first-above .result) some (c .before .before .before .before .first-above .ensures) (c .before .before .before .if2 .taken))
+    ∙ ap (firstFrom (orderCheck (a .index .now) (a .l) p) 0) (sub-zero n)
+
+check-rest-requires : tie.Need-check-rest-requires
+check-rest-requires c κs = search needs
+
+returns-3 : tie.Need-returns-3
+returns-3 c =
+    let a = c .before .before .before .before .before .before .args in
+    let p = a .page .0 in
+    let n = onPage (a .l) p in
+    let some : 0 < n = rw (← c .before .before .before .before .on-page .ensures) (omega arith) in
+    c .check-rest .ensures
+    ∙ sym (order-quiet (a .index .now) (a .l) p 0 n (c .before .before .first-above .result) some (c .before .before .first-above .ensures) (c .before .if2 .left))
+    ∙ ap (firstFrom (orderCheck (a .index .now) (a .l) p) 0) (sub-zero n)
+
+pub check-order-spec : {M : Type 1} → statement M
+check-order-spec =
+    tie.close
+    (tie.spec
+    on-page-requires
+    returns
+    first-above-requires
+    cast-refuse
+    full-requires
+    mul-refuse
+    refuse-requires
+    returns-2
+    check-rest-requires
+    returns-3)

@@ -1,0 +1,32 @@
+-- `key::rises` meets its contract: each outcome of the comparison.
+use mathlib.Core.Path.{sym, ap, _∙_}
+use Rattle.key.specs.Order.{isBelow}
+use borrow.Author.Needs.{needs}
+use Rattle.key.proofs.rises.Statement.{statement}
+use Rattle.key.proofs.rises.Tie as tie
+
+compare-requires : tie.Need-compare-requires
+compare-requires c κs = search needs
+
+enum-told : tie.Need-enum-told
+enum-told c = search needs
+
+enum-told-2 : tie.Need-enum-told-2
+enum-told-2 c = search needs
+
+enum-told-3 : tie.Need-enum-told-3
+enum-told-3 c = search needs
+
+returns : tie.Need-returns
+returns c = ap isBelow (sym (c .enum-told .given .1) ∙ c .before .before .compare .ensures)
+
+returns-2 : tie.Need-returns-2
+returns-2 c = ap isBelow (sym (c .enum-told2 .given .1) ∙ c .before .before .compare .ensures)
+
+returns-3 : tie.Need-returns-3
+returns-3 c = ap isBelow (sym (c .enum-told3 .given .1) ∙ c .before .before .compare .ensures)
+
+pub rises-spec : {M : Type 1} → statement M
+rises-spec =
+    tie.close
+    (tie.spec compare-requires enum-told enum-told-2 enum-told-3 returns returns-2 returns-3)

@@ -1,0 +1,10 @@
+-- What lent output holds at the end.
+use mathlib.Core.List.{List, _++_}
+use Prim.Native.Nat.{ℕ}
+use lib.ListN.{length, drop}
+use Rattle.refusal.specs.Check.{Check, silent, refused}
+
+-- Filled from its start, and bytes past the end of the answer stay; after a refusal every byte stays.
+unfoldable pub filled : Check → List ℕ → List ℕ → List ℕ
+filled silent answer output = answer ++ drop (length answer) output
+filled (refused number place) answer output = output

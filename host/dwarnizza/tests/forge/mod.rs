@@ -1,0 +1,244 @@
+//! Archive indexes for tests: good ones, and ones with chosen faults.
+
+mod spoil;
+
+pub use spoil::spoil;
+
+use std::ops::Range;
+
+use crate::random::Random;
+use second::index::{FOOTER, PAGE, Settings};
+use second::md5;
+
+// Where the fields stand in the footer.
+pub const VERSION: usize = 8;
+pub const HASH_LENGTH: usize = 15;
+pub const COUNT: Range<usize> = 16..20;
+pub const FOOTER_HASH: Range<usize> = 20..28;
+
+/// How many bytes of an MD5 are stored.
+const HASH: usize = 8;
+
+/// A file with the layout that it was made by.
+#[derive(Clone)]
+pub struct IndexFile {
+    pub settings: Settings,
+    pub entries: usize,
+    pub bytes: Vec<u8>,
+}
+
+impl IndexFile {
+    /// The file of a list. Its keys need not rise; all else is right.
+    pub fn new(settings: Settings, list: &[u8]) -> Self {
+        let entries = list.len() / settings.entry_len();
+        let mut file = Self {
+            settings,
+            entries,
+            bytes: vec![0; settings.file_len(entries)],
+        };
+        for (number, entry) in list.chunks(settings.entry_len()).enumerate() {
+            file.entry(number).copy_from_slice(entry);
+        }
+        for page in 0..file.pages() {
+            file.fix_last_key(page);
+            file.fix_page_hash(page);
+        }
+        let Settings {
+            version,
+            offset_width,
+            key_length,
+        } = settings;
+        let fields = [version, 0, 0, 4, offset_width, 4, key_length, 8];
+        file.footer()[VERSION..=HASH_LENGTH].copy_from_slice(&fields);
+        file.set_count(entries as u32);
+        file.fix_contents_hash();
+        file
+    }
+
+    /// A good file of random entries.
+    pub fn random(random: &mut Random, settings: Settings, entries: usize) -> Self {
+        Self::new(settings, &random_list(random, settings, entries))
+    }
+
+    pub fn pages(&self) -> usize {
+        self.settings.pages(self.entries)
+    }
+
+    /// The page that an entry stands on.
+    pub fn page_of(&self, entry: usize) -> usize {
+        entry / self.settings.entries_per_page()
+    }
+
+    /// The number of a page's last entry.
+    pub fn last_entry(&self, page: usize) -> usize {
+        ((page + 1) * self.settings.entries_per_page()).min(self.entries) - 1
+    }
+
+    pub fn page(&mut self, page: usize) -> &mut [u8] {
+        &mut self.bytes[page * PAGE..][..PAGE]
+    }
+
+    /// What stands after a page's entries; nothing where they fill the page.
+    pub fn padding(&mut self, page: usize) -> &mut [u8] {
+        let slots = self.last_entry(page) + 1 - page * self.settings.entries_per_page();
+        let start = slots * self.settings.entry_len();
+        &mut self.page(page)[start..]
+    }
+
+    pub fn entry(&mut self, number: usize) -> &mut [u8] {
+        let length = self.settings.entry_len();
+        let slot = number % self.settings.entries_per_page();
+        let page = self.page_of(number);
+        &mut self.page(page)[slot * length..][..length]
+    }
+
+    pub fn key(&mut self, number: usize) -> &mut [u8] {
+        let length = self.settings.key_len();
+        &mut self.entry(number)[..length]
+    }
+
+    pub fn last_key(&mut self, page: usize) -> &mut [u8] {
+        let length = self.settings.key_len();
+        let start = self.pages() * PAGE + page * length;
+        &mut self.bytes[start..][..length]
+    }
+
+    pub fn page_hash(&mut self, page: usize) -> &mut [u8] {
+        let start = self.pages() * (PAGE + self.settings.key_len()) + page * HASH;
+        &mut self.bytes[start..][..HASH]
+    }
+
+    pub fn footer(&mut self) -> &mut [u8] {
+        let start = self.bytes.len() - FOOTER;
+        &mut self.bytes[start..]
+    }
+
+    /// Puts another count into the footer, and the right footer hash.
+    pub fn set_count(&mut self, count: u32) {
+        self.footer()[COUNT].copy_from_slice(&count.to_le_bytes());
+        self.fix_footer_hash();
+    }
+
+    pub fn fix_last_key(&mut self, page: usize) {
+        let key = self.key(self.last_entry(page)).to_vec();
+        self.last_key(page).copy_from_slice(&key);
+    }
+
+    pub fn fix_page_hash(&mut self, page: usize) {
+        let hash = first_8(self.page(page));
+        self.page_hash(page).copy_from_slice(&hash);
+    }
+
+    pub fn fix_contents_hash(&mut self) {
+        let hash = first_8(&self.bytes[self.pages() * PAGE..self.bytes.len() - FOOTER]);
+        self.footer()[..HASH].copy_from_slice(&hash);
+    }
+
+    pub fn fix_footer_hash(&mut self) {
+        let footer = self.footer();
+        footer[FOOTER_HASH].fill(0);
+        let hash = first_8(&footer[VERSION..]);
+        footer[FOOTER_HASH].copy_from_slice(&hash);
+    }
+
+    /// Puts faults into a good file, each so that it is met: all that is judged before it is right.
+    pub fn put_faults(&mut self, random: &mut Random, faults: &[Fault]) {
+        // From the front, since each key goes by the one before.
+        for number in 0..self.entries {
+            if faults.contains(&Fault::Order(number)) {
+                let before = self.key(number - 1).to_vec();
+                self.key(number).copy_from_slice(&before);
+                if random.up_to(1) == 0 {
+                    count_down(self.key(number));
+                }
+                self.fix_last_key(self.page_of(number));
+            }
+        }
+        for &fault in faults {
+            if let Fault::Padding(page) = fault {
+                flip(random, self.padding(page));
+            }
+        }
+        for page in 0..self.pages() {
+            self.fix_page_hash(page);
+        }
+        for &fault in faults {
+            match fault {
+                Fault::PageHash(page) => flip(random, self.page_hash(page)),
+                Fault::LastKey(page) => flip(random, self.last_key(page)),
+                Fault::Padding(_) | Fault::Order(_) => {}
+            }
+        }
+    }
+}
+
+/// A fault of a page or of an entry, each named once at most in a list of faults.
+#[derive(Clone, Copy, Debug, PartialEq, Eq)]
+pub enum Fault {
+    /// 6.
+    PageHash(usize),
+    /// 7; the page has padding.
+    Padding(usize),
+    /// 8; the entry is not the first of the file.
+    Order(usize),
+    /// 9.
+    LastKey(usize),
+}
+
+/// A list of random entries whose keys rise: there must be so many keys.
+pub fn random_list(random: &mut Random, settings: Settings, entries: usize) -> Vec<u8> {
+    let mut list = Vec::with_capacity(entries * settings.entry_len());
+    for key in rising_keys(random, settings, entries) {
+        let key = key.to_be_bytes();
+        list.extend(&key[key.len() - settings.key_len()..]);
+        list.extend(random.bytes(settings.entry_len() - settings.key_len()));
+    }
+    list
+}
+
+/// So many keys as numbers: anything between all close together and spread over all numbers, and
+/// now and then from zero.
+fn rising_keys(random: &mut Random, settings: Settings, count: usize) -> Vec<u128> {
+    let Some(others) = (count as u128).checked_sub(1) else {
+        return Vec::new();
+    };
+    let bits = 8 * u32::from(settings.key_length);
+    let highest = u128::MAX >> (u128::BITS - bits);
+    let room = highest.checked_sub(others).expect("there are so many keys");
+    let gap = (room / (others + 1)) >> random.up_to(bits as usize - 1);
+    let first = match random.up_to(3) {
+        0 => 0,
+        _ => wide_up_to(random, room - gap * (others + 1)),
+    };
+    (0..=others)
+        .map(|number| first + number * gap + number + wide_up_to(random, gap))
+        .collect()
+}
+
+/// A number from 0 to `most`.
+fn wide_up_to(random: &mut Random, most: u128) -> u128 {
+    let number = u128::from(random.word()) << 64 | u128::from(random.word());
+    match most.checked_add(1) {
+        Some(count) => number % count,
+        None => number,
+    }
+}
+
+/// The key before this one; the lowest stays.
+fn count_down(key: &mut [u8]) {
+    if let Some(last) = key.iter().rposition(|&byte| byte != 0) {
+        key[last] -= 1;
+        key[last + 1..].fill(0xff);
+    }
+}
+
+/// Makes one byte another.
+pub fn flip(random: &mut Random, bytes: &mut [u8]) {
+    let place = random.up_to(bytes.len() - 1);
+    bytes[place] ^= 1 + random.up_to(254) as u8;
+}
+
+fn first_8(data: &[u8]) -> [u8; HASH] {
+    let digest = md5::digest(data).expect("the data is below the limit");
+    *digest.first_chunk().expect("16 bytes begin with 8")
+}

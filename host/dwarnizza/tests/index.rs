@@ -1,0 +1,623 @@
+//! Archive indexes by the library against the second program.
+
+mod forge;
+mod random;
+
+use std::fmt;
+use std::thread;
+
+use dwarnizza::index::{Settings, Summary};
+use dwarnizza::{Refusal, refusal};
+use forge::{COUNT, FOOTER_HASH, Fault, HASH_LENGTH, IndexFile, VERSION, flip, random_list, spoil};
+use random::Random;
+use second::index::{FOOTER, MOST_ENTRIES, PAGE};
+
+/// What the full check gives.
+type Answer = Result<Summary, Refusal>;
+
+fn refused(number: u32, place: usize) -> Answer {
+    Err(in_library_terms(second::refusal::Refusal {
+        number,
+        place: place as u64,
+    }))
+}
+
+fn in_library_terms(refusal: second::refusal::Refusal) -> Refusal {
+    Refusal {
+        number: refusal.number,
+        place: refusal.place,
+        link: None,
+    }
+}
+
+fn in_library_settings(settings: second::index::Settings) -> Settings {
+    let second::index::Settings {
+        version,
+        offset_width,
+        key_length,
+    } = settings;
+    Settings {
+        version,
+        offset_width,
+        key_length,
+    }
+}
+
+fn settings(key_length: u8, offset_width: u8) -> second::index::Settings {
+    second::index::Settings {
+        version: 1,
+        offset_width,
+        key_length,
+    }
+}
+
+/// All key lengths with all offset widths.
+fn all_settings() -> impl Iterator<Item = second::index::Settings> {
+    (1..=16).flat_map(|key_length| (4..=6).map(move |width| settings(key_length, width)))
+}
+
+/// How many keys of this length there are, or a number that is enough here.
+fn keys(settings: second::index::Settings) -> usize {
+    1 << (8 * settings.key_len()).min(32)
+}
+
+/// The full check by the second program.
+fn second_check(file: &[u8]) -> Answer {
+    let index = second::index::check(file).map_err(in_library_terms)?;
+    Ok(Summary {
+        settings: in_library_settings(index.settings()),
+        entries: index.entries(),
+        pages: index.pages(),
+    })
+}
+
+fn list_len(summary: Summary) -> usize {
+    let Settings {
+        offset_width,
+        key_length,
+        ..
+    } = summary.settings;
+    summary.entries * (usize::from(key_length) + 4 + usize::from(offset_width))
+}
+
+/// What an output holds before a call.
+fn unwritten(room: usize) -> Vec<u8> {
+    (0..room).map(|i| (i * 7 + 3) as u8).collect()
+}
+
+/// The list by the library into an output of this size, after seeing that both programs give the
+/// same answer and leave the same bytes.
+#[track_caller]
+fn compare_list(file: &[u8], room: usize) -> Result<Vec<u8>, Refusal> {
+    let before = unwritten(room);
+    let (mut library, mut second) = (before.clone(), before.clone());
+    let expected = second::index::list(file, &mut second).map_err(in_library_terms);
+    assert_eq!(dwarnizza::index::list(file, &mut library), expected);
+    let written = *expected.as_ref().unwrap_or(&0);
+    assert!(library[..written] == second[..written], "lists differ");
+    assert!(
+        library[written..] == before[written..] && second[written..] == before[written..],
+        "a byte past the answer was written"
+    );
+    library.truncate(written);
+    expected.map(|_| library)
+}
+
+/// Both programs give this answer to the full check, and list the file into outputs of all kinds.
+#[track_caller]
+fn expect(file: &[u8], answer: Answer) {
+    assert_eq!(second_check(file), answer);
+    assert_eq!(dwarnizza::index::check(file), answer);
+    let length = answer.map_or(100, list_len);
+    for room in [length.saturating_sub(1), length, length + 1, length + 1000] {
+        let expected = match answer {
+            Ok(_) if room < length => Err(refusal::OUTPUT_SHORT),
+            Ok(_) => Ok(length),
+            Err(refusal) => Err(refusal.number),
+        };
+        let listed = compare_list(file, room);
+        let listed = listed.map(|list| list.len());
+        assert_eq!(listed.map_err(|refusal| refusal.number), expected);
+    }
+}
+
+/// Both programs pass this file and say of it what it was made with.
+#[track_caller]
+fn expect_good(file: &IndexFile) {
+    let summary = Summary {
+        settings: in_library_settings(file.settings),
+        entries: file.entries,
+        pages: file.pages(),
+    };
+    expect(&file.bytes, Ok(summary));
+}
+
+#[track_caller]
+fn expect_refused(file: &[u8], number: u32, place: usize) {
+    expect(file, refused(number, place));
+}
+
+#[test]
+fn good_files_of_every_layout() {
+    let mut random = Random::new();
+    for settings in all_settings() {
+        let full = settings.entries_per_page();
+        let counts = [0, 1, full - 1, full, full + 1, 2 * full, 5 * full + 7];
+        for entries in counts.into_iter().filter(|&n| n <= keys(settings)) {
+            let list = random_list(&mut random, settings, entries);
+            let file = IndexFile::new(settings, &list);
+            expect_good(&file);
+            assert!(compare_list(&file.bytes, list.len()).as_ref() == Ok(&list));
+
+            let mut written = vec![0; file.bytes.len()];
+            let length = second::index::write(settings, &list, &mut written);
+            assert_eq!(length, Ok(written.len()));
+            assert!(written == file.bytes, "the writer makes another file");
+        }
+    }
+}
+
+/// There are only 256 keys of one byte, fewer than a full page holds.
+#[test]
+fn all_keys_of_one_byte_and_more() {
+    for width in 4..=6 {
+        let settings = settings(1, width);
+        let full = settings.entries_per_page();
+        for entries in [255, 256] {
+            expect_good(&IndexFile::new(settings, &counted_list(settings, entries)));
+        }
+        for entries in [257, full - 1, full, full + 1] {
+            let file = IndexFile::new(settings, &counted_list(settings, entries));
+            expect_refused(&file.bytes, refusal::INDEX_ORDER, 256);
+        }
+    }
+}
+
+#[test]
+fn lengths_of_the_marked_examples() {
+    let mut random = Random::new();
+    for (entries, length) in [(0, 28), (1, 4148), (170, 4148), (171, 8268)] {
+        let file = IndexFile::random(&mut random, settings(16, 4), entries);
+        assert_eq!(file.bytes.len(), length);
+        expect_good(&file);
+    }
+}
+
+#[test]
+fn the_zero_key_is_a_key() {
+    for settings in all_settings() {
+        // Entries of zeros but for the last byte of the key.
+        let file = |last_bytes: &[u8]| {
+            let mut list = vec![0; last_bytes.len() * settings.entry_len()];
+            for (entry, &byte) in list.chunks_mut(settings.entry_len()).zip(last_bytes) {
+                entry[settings.key_len() - 1] = byte;
+            }
+            IndexFile::new(settings, &list)
+        };
+        expect_good(&file(&[0]));
+        expect_good(&file(&[0, 1, 2]));
+        expect_refused(&file(&[0, 0]).bytes, refusal::INDEX_ORDER, 1);
+        expect_refused(&file(&[1, 2, 0]).bytes, refusal::INDEX_ORDER, 2);
+    }
+}
+
+/// All 256 values of each field, with the footer hash right and wrong.
+#[test]
+fn footer_fields() {
+    let mut random = Random::new();
+    for entries in [0, 1, 200] {
+        let good = IndexFile::random(&mut random, settings(16, 4), entries);
+        for field in VERSION..=HASH_LENGTH {
+            for value in 0..=u8::MAX {
+                let mut file = good.clone();
+                file.footer()[field] = value;
+                let allowed = match field {
+                    8 => value <= 1,
+                    9 | 10 => value == 0,
+                    11 | 13 => value == 4,
+                    12 => (4..=6).contains(&value),
+                    14 => (1..=16).contains(&value),
+                    _ => value == 8,
+                };
+                file.fix_footer_hash();
+                let answer = second_check(&file.bytes);
+                assert_eq!(answer == refused(refusal::FOOTER_FIELD, 0), !allowed);
+                expect(&file.bytes, answer);
+
+                flip(&mut random, &mut file.footer()[FOOTER_HASH]);
+                let number = if allowed {
+                    refusal::FOOTER_HASH
+                } else {
+                    refusal::FOOTER_FIELD
+                };
+                expect_refused(&file.bytes, number, 0);
+            }
+        }
+    }
+}
+
+#[test]
+fn the_footer_hash() {
+    let mut random = Random::new();
+    let good = IndexFile::random(&mut random, settings(9, 5), 3);
+    for place in 0..FOOTER {
+        for bit in 0..8 {
+            let mut file = good.clone();
+            file.footer()[place] ^= 1 << bit;
+            if place < VERSION {
+                // The contents hash is not judged.
+                expect_good(&file);
+            } else if COUNT.contains(&place) || FOOTER_HASH.contains(&place) {
+                expect_refused(&file.bytes, refusal::FOOTER_HASH, 0);
+            }
+        }
+    }
+}
+
+#[test]
+fn the_entry_count_is_little_endian() {
+    let mut random = Random::new();
+    let mut file = IndexFile::random(&mut random, settings(2, 4), 0x0102);
+    assert_eq!(file.footer()[COUNT], [2, 1, 0, 0]);
+    expect_good(&file);
+    file.footer()[COUNT].reverse();
+    file.fix_footer_hash();
+    expect_refused(&file.bytes, refusal::ENTRY_COUNT, 0);
+}
+
+#[test]
+fn the_limit_of_entries() {
+    let most = MOST_ENTRIES as u32;
+    let mut empty = IndexFile::new(settings(1, 4), &[]);
+    for (count, number) in [
+        (most - 1, refusal::INDEX_LENGTH),
+        (most, refusal::INDEX_LENGTH),
+        (most + 1, refusal::ENTRY_COUNT),
+        (u32::MAX, refusal::ENTRY_COUNT),
+    ] {
+        empty.set_count(count);
+        expect_refused(&empty.bytes, number, 0);
+        flip(&mut Random::new(), &mut empty.footer()[FOOTER_HASH]);
+        expect_refused(&empty.bytes, refusal::FOOTER_HASH, 0);
+    }
+
+    // With the right length: zeros, and a footer.
+    for (entries, number) in [
+        (MOST_ENTRIES, refusal::INDEX_PAGE_HASH),
+        (MOST_ENTRIES + 1, refusal::ENTRY_COUNT),
+    ] {
+        empty.set_count(entries as u32);
+        let mut bytes = vec![0; empty.settings.file_len(entries)];
+        let start = bytes.len() - FOOTER;
+        bytes[start..].copy_from_slice(&empty.bytes);
+        expect_refused(&bytes, number, 0);
+    }
+}
+
+/// The start and the end of an index, of every length below its own.
+#[test]
+fn every_cut() {
+    let mut random = Random::new();
+    let good = IndexFile::random(&mut random, settings(16, 4), 171).bytes;
+    for length in 0..good.len() {
+        let (start, end) = (&good[..length], &good[good.len() - length..]);
+        assert_eq!(dwarnizza::index::check(start), second_check(start));
+        assert_eq!(dwarnizza::index::check(end), second_check(end));
+        if length < FOOTER {
+            assert_eq!(second_check(start), refused(refusal::INDEX_SHORT, 0));
+            assert_eq!(second_check(end), refused(refusal::INDEX_SHORT, 0));
+        } else {
+            assert!(second_check(start).is_err());
+            assert_eq!(second_check(end), refused(refusal::INDEX_LENGTH, 0));
+        }
+    }
+}
+
+#[test]
+fn lengths_beside_the_right_one() {
+    let mut random = Random::new();
+    for entries in [0, 1, 170, 171] {
+        let good = IndexFile::random(&mut random, settings(16, 4), entries);
+        let (contents, footer) = good.bytes.split_at(good.bytes.len() - FOOTER);
+        // Before the footer, or at the start.
+        for length in [1, 16, 28, PAGE, PAGE + 16 + 8] {
+            let zeros = vec![0; length];
+            let file = [contents, &zeros, footer].concat();
+            expect_refused(&file, refusal::INDEX_LENGTH, 0);
+            let file = [&zeros, contents, footer].concat();
+            expect_refused(&file, refusal::INDEX_LENGTH, 0);
+            if let Some(rest) = contents.len().checked_sub(length) {
+                let file = [&contents[..rest], footer].concat();
+                expect_refused(&file, refusal::INDEX_LENGTH, 0);
+            }
+            // At the end, the footer is no longer the last.
+            let file = [contents, footer, &zeros].concat();
+            expect_refused(&file, refusal::FOOTER_FIELD, 0);
+        }
+    }
+}
+
+/// The number of pages stays, and a page's entries end earlier or later.
+#[test]
+fn another_count_on_the_same_pages() {
+    let mut random = Random::new();
+    for settings in all_settings().filter(|settings| settings.key_length > 1) {
+        let full = settings.entries_per_page();
+        let mut file = IndexFile::random(&mut random, settings, full + 2);
+        file.entry(full + 1).fill(0xff);
+        file.fix_page_hash(1);
+        file.fix_last_key(1);
+        file.set_count(full as u32 + 1);
+        expect_refused(&file.bytes, refusal::INDEX_PADDING, 1);
+        file.set_count(full as u32 + 3);
+        expect_refused(&file.bytes, refusal::INDEX_ORDER, full + 2);
+    }
+}
+
+/// Refusals 1 to 6 with one or more of the next behind each.
+#[test]
+fn the_order_before_the_pages() {
+    let mut random = Random::new();
+    let mut file = IndexFile::random(&mut random, settings(16, 4), 171);
+    file.put_faults(&mut random, &[Fault::PageHash(0), Fault::LastKey(0)]);
+    expect_refused(&file.bytes, refusal::INDEX_PAGE_HASH, 0);
+
+    // The length now, with the page hash behind it.
+    file.set_count(341);
+    expect_refused(&file.bytes, refusal::INDEX_LENGTH, 0);
+    file.set_count(8_388_609);
+    expect_refused(&file.bytes, refusal::ENTRY_COUNT, 0);
+    flip(&mut random, &mut file.footer()[FOOTER_HASH]);
+    expect_refused(&file.bytes, refusal::FOOTER_HASH, 0);
+    file.footer()[HASH_LENGTH] = 16;
+    expect_refused(&file.bytes, refusal::FOOTER_FIELD, 0);
+    let start = file.bytes.len() - FOOTER;
+    expect_refused(&file.bytes[start..], refusal::FOOTER_FIELD, 0);
+    expect_refused(&file.bytes[start + 1..], refusal::INDEX_SHORT, 0);
+}
+
+/// Each fault of a page or an entry alone and with each other, on three pages.
+#[test]
+fn the_order_in_the_pages() {
+    let mut random = Random::new();
+    for settings in [settings(16, 4), settings(2, 5), settings(9, 6)] {
+        let full = settings.entries_per_page();
+        let good = IndexFile::random(&mut random, settings, 2 * full + 20);
+        let mut faults = Vec::new();
+        for page in 0..3 {
+            faults.extend([
+                Fault::PageHash(page),
+                Fault::Padding(page),
+                Fault::LastKey(page),
+            ]);
+            faults.extend(
+                (page * full..)
+                    .take(3)
+                    .map(Fault::Order)
+                    .skip(usize::from(page == 0)),
+            );
+            faults.push(Fault::Order(good.last_entry(page)));
+        }
+        for &one in &faults {
+            for &other in &faults {
+                let mut file = good.clone();
+                file.put_faults(&mut random, &[one, other]);
+                let first = [one, other]
+                    .into_iter()
+                    .min_by_key(|&fault| turn(&good, fault))
+                    .expect("there are two");
+                let (number, place) = number_and_place(first);
+                expect_refused(&file.bytes, number, place);
+            }
+        }
+    }
+}
+
+/// The number and place that a fault is refused with.
+fn number_and_place(fault: Fault) -> (u32, usize) {
+    match fault {
+        Fault::PageHash(page) => (refusal::INDEX_PAGE_HASH, page),
+        Fault::Padding(page) => (refusal::INDEX_PADDING, page),
+        Fault::Order(entry) => (refusal::INDEX_ORDER, entry),
+        Fault::LastKey(page) => (refusal::LAST_KEY, page),
+    }
+}
+
+/// When a fault has its turn: by page, then by number, then by entry.
+fn turn(file: &IndexFile, fault: Fault) -> (usize, u32, usize) {
+    let (number, place) = number_and_place(fault);
+    match fault {
+        Fault::Order(entry) => (file.page_of(entry), number, entry),
+        Fault::PageHash(page) | Fault::Padding(page) | Fault::LastKey(page) => {
+            (page, number, place)
+        }
+    }
+}
+
+/// Each byte of a stored hash, of a stored last key and of padding counts.
+#[test]
+fn each_byte_counts() {
+    let mut random = Random::new();
+    let settings = settings(10, 5);
+    let entries = 2 * settings.entries_per_page() - 5;
+    let good = IndexFile::random(&mut random, settings, entries);
+    for page in 0..good.pages() {
+        for place in 0..8 {
+            let mut file = good.clone();
+            file.page_hash(page)[place] ^= 1 << random.up_to(7);
+            expect_refused(&file.bytes, refusal::INDEX_PAGE_HASH, page);
+        }
+        for place in 0..settings.key_len() {
+            let mut file = good.clone();
+            file.last_key(page)[place] ^= 1 << random.up_to(7);
+            expect_refused(&file.bytes, refusal::LAST_KEY, page);
+        }
+        for place in 0..good.clone().padding(page).len() {
+            let mut file = good.clone();
+            file.padding(page)[place] ^= 1 << random.up_to(7);
+            expect_refused(&file.bytes, refusal::INDEX_PAGE_HASH, page);
+            file.fix_page_hash(page);
+            expect_refused(&file.bytes, refusal::INDEX_PADDING, page);
+        }
+    }
+}
+
+/// Two neighbours that differ in one byte only, at each place of the key, as unsigned bytes.
+#[test]
+fn keys_are_compared_whole_and_unsigned() {
+    for settings in all_settings() {
+        let full = settings.entries_per_page();
+        for place in 0..settings.key_len() {
+            for (low, high) in [(0, 1), (0x7f, 0x80), (0x7f, 0xff), (0xfe, 0xff), (1, 0x80)] {
+                // What follows the byte is against its order.
+                let mut list = vec![0; 2 * settings.entry_len()];
+                let (one, other) = list.split_at_mut(settings.entry_len());
+                one.fill(0xff);
+                one[..place].fill(0x55);
+                other[..place].fill(0x55);
+                one[place] = low;
+                other[place] = high;
+                expect_good(&IndexFile::new(settings, &list));
+
+                let (one, other) = list.split_at_mut(settings.entry_len());
+                one.swap_with_slice(other);
+                let falling = IndexFile::new(settings, &list);
+                expect_refused(&falling.bytes, refusal::INDEX_ORDER, 1);
+            }
+        }
+        // Equal keys with other sizes and locations, on one page and across two.
+        for equal in [1, full - 1, full] {
+            let mut file = IndexFile::new(settings, &counted_list(settings, full + 1));
+            let before = file.key(equal - 1).to_vec();
+            file.key(equal).copy_from_slice(&before);
+            for page in 0..file.pages() {
+                file.fix_last_key(page);
+                file.fix_page_hash(page);
+            }
+            let first = equal.min(keys(settings));
+            expect_refused(&file.bytes, refusal::INDEX_ORDER, first);
+        }
+    }
+}
+
+/// A list whose keys count from 0, with sizes and locations that fall.
+fn counted_list(settings: second::index::Settings, entries: usize) -> Vec<u8> {
+    let mut list = Vec::new();
+    for number in 0..entries {
+        let key = (number as u128).to_be_bytes();
+        list.extend(&key[key.len() - settings.key_len()..]);
+        list.resize((number + 1) * settings.entry_len(), !number as u8);
+    }
+    list
+}
+
+/// How often each answer was given.
+#[derive(Default)]
+struct Tally {
+    files: u64,
+    passed: u64,
+    refused: [u64; 14],
+}
+
+impl Tally {
+    /// Holds the two programs against each other on one file.
+    fn compare(&mut self, random: &mut Random, file: &[u8]) {
+        self.files += 1;
+        let answer = second_check(file);
+        assert_eq!(dwarnizza::index::check(file), answer);
+        let room = match answer {
+            Ok(summary) => {
+                self.passed += 1;
+                let length = list_len(summary);
+                match random.up_to(3) {
+                    0 => length,
+                    1 => length.saturating_sub(1),
+                    2 => length + 1 + random.up_to(500),
+                    _ => random.up_to(length),
+                }
+            }
+            Err(refusal) => {
+                self.refused[refusal.number as usize] += 1;
+                random.up_to(5000)
+            }
+        };
+        if compare_list(file, room).is_err() && answer.is_ok() {
+            self.refused[refusal::OUTPUT_SHORT as usize] += 1;
+        }
+    }
+}
+
+impl fmt::Display for Tally {
+    fn fmt(&self, f: &mut fmt::Formatter<'_>) -> fmt::Result {
+        write!(f, "{} files: {} passed", self.files, self.passed)?;
+        for (number, count) in self.refused.iter().enumerate().filter(|(_, n)| **n > 0) {
+            write!(f, ", {count} refused {number}")?;
+        }
+        Ok(())
+    }
+}
+
+/// Says, where a comparison fails, of which file.
+struct Context {
+    number: u64,
+    kind: &'static str,
+}
+
+impl Drop for Context {
+    fn drop(&mut self) {
+        if thread::panicking() {
+            eprintln!("file {} ({})", self.number, self.kind);
+        }
+    }
+}
+
+/// Good files and files with random faults of every kind.
+#[test]
+fn a_hundred_thousand_files() {
+    const FILES: u64 = 120_000;
+    const FROM_EACH: usize = 12;
+
+    let mut random = Random::new();
+    let mut tally = Tally::default();
+    while tally.files < FILES {
+        let good = random_good(&mut random);
+        for _ in 0..FROM_EACH {
+            let (kind, file) = spoil(&mut random, &good);
+            let _context = Context {
+                number: tally.files,
+                kind,
+            };
+            tally.compare(&mut random, &file);
+        }
+    }
+    println!("{tally}");
+    for number in (1..=9).chain([13]) {
+        assert!(
+            tally.refused[number] > 0,
+            "no file was refused with {number}"
+        );
+    }
+}
+
+/// A good file of any settings, mostly of few pages.
+fn random_good(random: &mut Random) -> IndexFile {
+    let settings = second::index::Settings {
+        version: random.up_to(1) as u8,
+        offset_width: 4 + random.up_to(2) as u8,
+        key_length: 1 + random.up_to(15) as u8,
+    };
+    let full = settings.entries_per_page();
+    let entries = match random.up_to(9) {
+        0 => 0,
+        1 => 1,
+        2 => full - 1,
+        3 => full,
+        4 => full + 1,
+        5 => 2 * full,
+        6 => 2 * full + 1,
+        7 => 1 + random.up_to(9),
+        8 => random.up_to(full),
+        _ => random.up_to(4 * full),
+    };
+    IndexFile::random(random, settings, entries.min(keys(settings)))
+}

@@ -1,0 +1,257 @@
+//! Archive indexes by the second program: document 01's marked examples, whole files with hashes
+//! from elsewhere, the orders of refusal, and the lookup beside the plain reading.
+
+use second::index::{
+    FOOTER, Index, Lookup, MOST_ENTRIES, PAGE, Settings, bound, check, list, lookup, write,
+};
+use second::refusal::{self, Refusal};
+
+const K1_W4: Settings = settings(1, 4);
+const K16_W4: Settings = settings(16, 4);
+
+const fn settings(key_length: u8, offset_width: u8) -> Settings {
+    Settings {
+        version: 1,
+        offset_width,
+        key_length,
+    }
+}
+
+/// A list with the keys `first`, `first + step` and so on, as numbers of K bytes.
+fn counted_list(settings: Settings, entries: usize, first: u128, step: u128) -> Vec<u8> {
+    let mut list = Vec::new();
+    for number in 0..entries {
+        let key = (first + number as u128 * step).to_be_bytes();
+        list.extend(&key[key.len() - settings.key_len()..]);
+        list.extend((number as u32).to_be_bytes());
+        let location = (7 * number as u64).to_be_bytes();
+        list.extend(&location[location.len() - usize::from(settings.offset_width)..]);
+    }
+    list
+}
+
+/// The file of a list that may be written.
+fn file(settings: Settings, list: &[u8]) -> Vec<u8> {
+    let entries = list.len() / settings.entry_len();
+    let mut file = vec![0xee; settings.file_len(entries)];
+    assert_eq!(write(settings, list, &mut file), Ok(file.len()));
+    file
+}
+
+fn refused_write(settings: Settings, list: &[u8], room: usize) -> Refusal {
+    let mut output = vec![0xee; room];
+    let refusal = write(settings, list, &mut output).expect_err("this is refused");
+    assert!(output.iter().all(|&byte| byte == 0xee));
+    refusal
+}
+
+#[test]
+fn m1_to_m3_full_pages_and_lengths() {
+    assert_eq!(K16_W4.entries_per_page(), 170);
+    let lengths = [0, 1, 170, 171].map(|entries| K16_W4.file_len(entries));
+    assert_eq!(lengths, [28, 4148, 4148, 8268]);
+    assert_eq!(settings(9, 4).entries_per_page(), 240);
+    assert_eq!(settings(16, 6).entries_per_page(), 157);
+}
+
+#[test]
+fn m4_comparisons() {
+    let one = file(K1_W4, &[5, 0, 0, 0, 7, 0, 0, 0, 9]);
+    let found = lookup(&one, &[5]).unwrap();
+    assert_eq!(found.compared, 3);
+    let entry = found.found.unwrap();
+    assert_eq!((entry.page, entry.slot), (0, 0));
+    assert_eq!((entry.size, entry.location), (7, 9));
+    for (key, compared) in [(4, 3), (6, 1)] {
+        let absent = Lookup {
+            found: None,
+            compared,
+        };
+        assert_eq!(lookup(&one, &[key]), Ok(absent));
+    }
+    let absent = Lookup {
+        found: None,
+        compared: 0,
+    };
+    assert_eq!(lookup(&file(K1_W4, &[]), &[5]), Ok(absent));
+}
+
+/// The hashes were made by another program.
+#[test]
+fn whole_files() {
+    let one = file(K1_W4, &[5, 0, 0, 0, 7, 0, 0, 0, 9]);
+    let (page, table) = one.split_at(PAGE);
+    assert_eq!(page[..9], [5, 0, 0, 0, 7, 0, 0, 0, 9]);
+    assert!(page[9..].iter().all(|&byte| byte == 0));
+    let expected = [
+        b"\x05".as_slice(),
+        b"\x88\x07\x96\x82\x6c\xe6\x5c\x05",
+        b"\xd0\xd8\xb2\x43\xaa\x23\xc3\x90",
+        b"\x01\x00\x00\x04\x04\x04\x01\x08",
+        b"\x01\x00\x00\x00",
+        b"\x11\xbd\x0b\x78\x75\xfe\x74\x90",
+    ];
+    assert_eq!(table, expected.concat());
+
+    let version_0 = Settings {
+        version: 0,
+        ..K16_W4
+    };
+    let expected = [
+        b"\xd4\x1d\x8c\xd9\x8f\x00\xb2\x04",
+        b"\x00\x00\x00\x04\x04\x04\x10\x08".as_slice(),
+        b"\x00\x00\x00\x00",
+        b"\xe0\xe3\x87\xf2\x31\x42\x6f\xd1",
+    ];
+    assert_eq!(file(version_0, &[]), expected.concat());
+}
+
+#[test]
+fn what_is_written_is_checked_and_listed() {
+    for (key_length, offset_width) in [(2, 4), (7, 5), (16, 6)] {
+        let settings = settings(key_length, offset_width);
+        let full = settings.entries_per_page();
+        for entries in [0, 1, full - 1, full, full + 1, 3 * full + 5] {
+            let written = counted_list(settings, entries, 0, 3);
+            let file = file(settings, &written);
+            let index = check(&file).unwrap();
+            assert_eq!(index.settings(), settings);
+            assert_eq!(index.entries(), entries);
+            assert_eq!(index.pages(), entries.div_ceil(full));
+
+            let mut output = vec![0xee; written.len() + 5];
+            assert_eq!(list(&file, &mut output), Ok(written.len()));
+            assert_eq!(output[..written.len()], written);
+            assert_eq!(output[written.len()..], [0xee; 5]);
+        }
+    }
+}
+
+#[test]
+fn the_writer_refuses_in_its_order() {
+    let wrong = [
+        Settings {
+            version: 2,
+            ..K1_W4
+        },
+        settings(0, 4),
+        settings(17, 4),
+        settings(1, 3),
+        settings(1, 7),
+    ];
+    for settings in wrong {
+        assert_eq!(refused_write(settings, &[0], 0), refusal::SETTINGS);
+    }
+
+    // Not whole entries, and too many; then too many, and none rising; then not rising.
+    let length = (MOST_ENTRIES + 1) * K1_W4.entry_len();
+    let zeros = vec![0; length + 1];
+    assert_eq!(refused_write(K1_W4, &zeros, 0), refusal::LIST_NOT_WHOLE);
+    let zeros = &zeros[..length];
+    assert_eq!(refused_write(K1_W4, zeros, 0), refusal::TOO_MANY_ENTRIES);
+    let zeros = &zeros[..length - K1_W4.entry_len()];
+    assert_eq!(refused_write(K1_W4, zeros, 0), refusal::order(1));
+
+    let mut list = counted_list(K1_W4, 6, 10, 10);
+    list[4 * K1_W4.entry_len()] = 40;
+    list[5 * K1_W4.entry_len()] = 0;
+    assert_eq!(refused_write(K1_W4, &list, 0), refusal::order(4));
+    let list = counted_list(K1_W4, 6, 0, 1);
+    let room = K1_W4.file_len(6) - 1;
+    assert_eq!(refused_write(K1_W4, &list, room), refusal::OUTPUT_TOO_SHORT);
+}
+
+#[test]
+fn the_writer_leaves_what_comes_after() {
+    let list = counted_list(K1_W4, 6, 0, 1);
+    let mut output = vec![0xee; K1_W4.file_len(6) + 3];
+    assert_eq!(write(K1_W4, &list, &mut output), Ok(K1_W4.file_len(6)));
+    assert_eq!(output[K1_W4.file_len(6)..], [0xee; 3]);
+    assert!(check(&output[..K1_W4.file_len(6)]).is_ok());
+}
+
+/// Every key of two bytes, in indexes of none to all of them: found or absent as by the plain
+/// reading, and the bound both kept and met.
+#[test]
+fn the_lookup_agrees_with_the_plain_reading() {
+    let settings = settings(2, 5);
+    let full = settings.entries_per_page();
+    for (entries, first, step) in [
+        (0, 0, 1),
+        (1, 300, 1),
+        (2, 0, 65_535),
+        (full, 1, 5),
+        (3 * full - 1, 0, 17),
+        (8 * full, 9, 2),
+    ] {
+        let file = file(settings, &counted_list(settings, entries, first, step));
+        let index = check(&file).unwrap();
+        let bound = bound(&file).unwrap();
+        let mut most = 0;
+        for key in (0..=u16::MAX).step_by(3) {
+            let key = key.to_be_bytes();
+            let answer = lookup(&file, &key).unwrap();
+            assert_eq!(answer.found, index.plain_reading(&key));
+            assert!(answer.compared <= bound);
+            most = most.max(answer.compared);
+        }
+        if entries >= full {
+            assert_eq!(most, bound);
+        }
+    }
+}
+
+#[test]
+fn the_bound() {
+    // E is 170, of 8 binary digits.
+    for (pages, digits) in [(0, 0), (1, 1), (2, 2), (3, 2), (4, 3), (7, 3), (8, 4)] {
+        let file = file(K16_W4, &counted_list(K16_W4, pages * 170, 0, 1));
+        assert_eq!(bound(&file), Ok(digits + 8 + 1), "{pages} pages");
+    }
+}
+
+#[test]
+fn a_location_with_an_archive_number() {
+    let settings = settings(1, 6);
+    let file = file(settings, &[5, 0, 0, 0, 7, 0x12, 0x34, 0, 0, 0, 9]);
+    let found = lookup(&file, &[5]).unwrap().found.unwrap();
+    assert_eq!(found.location, 0x1234_0000_0009);
+}
+
+#[test]
+fn a_lookup_makes_only_its_own_checks() {
+    let list = counted_list(K1_W4, 6, 10, 10);
+    let good = file(K1_W4, &list);
+    for key in [&[][..], &[10, 0]] {
+        assert_eq!(lookup(&good, key), Err(refusal::SOUGHT_KEY_LENGTH));
+    }
+    let mut bad = good.clone();
+    let footer_hash = bad.len() - 1;
+    bad[footer_hash] ^= 1;
+    assert_eq!(lookup(&bad, &[]), Err(refusal::FOOTER_HASH));
+    assert_eq!(bound(&bad), Err(refusal::FOOTER_HASH));
+    assert_eq!(
+        lookup(&bad[..FOOTER - 1], &[]),
+        Err(refusal::INDEX_TOO_SHORT)
+    );
+
+    // The stored last key too high: the page is chosen, and no slot of it. Six slots are halved at
+    // 3, 5 and then none are left.
+    let mut bad = good.clone();
+    bad[PAGE] = 90;
+    assert_eq!(check(&bad).err(), Some(refusal::last_key(0)));
+    let absent = Lookup {
+        found: None,
+        compared: 3,
+    };
+    assert_eq!(lookup(&bad, &[70]), Ok(absent));
+
+    // Keys out of order: the halving misses what the plain reading finds.
+    let mut bad = good.clone();
+    bad[0] = 35;
+    assert_eq!(check(&bad).err(), Some(refusal::page_hash(0)));
+    let index = Index::open(&bad).unwrap();
+    assert_eq!(lookup(&bad, &[30]).unwrap().found.unwrap().slot, 2);
+    assert_eq!(lookup(&bad, &[35]).unwrap().found, None);
+    assert_eq!(index.plain_reading(&[35]).unwrap().slot, 0);
+}
