@@ -41,17 +41,18 @@ enum {
 
 /* The numbers of refusal. */
 enum {
-    DWARNIZZA_INDEX_SHORT = 1,     /* index under 28 bytes */
-    DWARNIZZA_FOOTER_FIELD = 2,    /* a footer field outside its list */
-    DWARNIZZA_FOOTER_HASH = 3,     /* footer hash wrong */
-    DWARNIZZA_ENTRY_COUNT = 4,     /* more than 8,388,608 entries */
-    DWARNIZZA_INDEX_LENGTH = 5,    /* file length wrong */
-    DWARNIZZA_INDEX_PAGE_HASH = 6, /* page hash wrong; place: page */
-    DWARNIZZA_INDEX_PADDING = 7,   /* padding not zero; place: page */
-    DWARNIZZA_INDEX_ORDER = 8,     /* key not above the one before; place: entry */
-    DWARNIZZA_LAST_KEY = 9,        /* stored last key wrong; place: page */
-    DWARNIZZA_OUTPUT_SHORT = 13,   /* output shorter than what is to be written */
-    DWARNIZZA_HASH_LIMIT = 50      /* more than 2^48 bytes hashed */
+    DWARNIZZA_INDEX_SHORT = 1,       /* index under 28 bytes */
+    DWARNIZZA_FOOTER_FIELD = 2,      /* a footer field outside its list */
+    DWARNIZZA_FOOTER_HASH = 3,       /* footer hash wrong */
+    DWARNIZZA_ENTRY_COUNT = 4,       /* more than 8,388,608 entries */
+    DWARNIZZA_INDEX_LENGTH = 5,      /* file length wrong */
+    DWARNIZZA_INDEX_PAGE_HASH = 6,   /* page hash wrong; place: page */
+    DWARNIZZA_INDEX_PADDING = 7,     /* padding not zero; place: page */
+    DWARNIZZA_INDEX_ORDER = 8,       /* key not above the one before; place: entry */
+    DWARNIZZA_LAST_KEY = 9,          /* stored last key wrong; place: page */
+    DWARNIZZA_INDEX_KEY_LENGTH = 10, /* sought key not of the index's key length */
+    DWARNIZZA_OUTPUT_SHORT = 13,     /* output shorter than what is to be written */
+    DWARNIZZA_HASH_LIMIT = 50        /* more than 2^48 bytes hashed */
 };
 
 /*
@@ -154,6 +155,41 @@ uint32_t dwarnizza_index_check(const uint8_t *index, size_t index_len,
 uint32_t dwarnizza_index_list(const uint8_t *index, size_t index_len,
                               uint8_t *output, size_t output_len,
                               uint64_t answer[8]);
+
+/*
+ * The lookup of a key, of K bytes.
+ *
+ * It halves the stored last keys to the first page whose last key is not below
+ * the sought one, then that page's entries to the first whose key is not below
+ * it, and one more comparison tells whether that key is the sought one. Each
+ * comparison of a stored key counts one. A page counts from 0, and a slot from
+ * 0 within its page.
+ *
+ * Of the full check it makes 1 to 5 alone. On an index that passes the full
+ * check it finds exactly the keys that stand in it, with no more comparisons
+ * than dwarnizza_index_bound says. On one that passes 1 to 5 only it answers
+ * by the same rule, and may miss a key: check an index once before it is
+ * searched.
+ *
+ * Answered: the key is found; answer[0] is the page, [1] the slot, [2] the
+ * encoded size, [3] the location as one number, [4] how many keys were
+ * compared. With W = 6 the location is an archive number, answer[3] >> 32, and
+ * an offset, answer[3] & 0xffffffff.
+ * Absent: answer[4] is how many keys were compared.
+ * Refused: 1 to 5 as the full check refuses; then 10 where key_len is not K.
+ */
+uint32_t dwarnizza_index_lookup(const uint8_t *index, size_t index_len,
+                                const uint8_t *key, size_t key_len,
+                                uint64_t answer[8]);
+
+/*
+ * The most comparisons that a lookup makes.
+ * Answered: answer[0] is the binary digits of P, and those of the entry count
+ * of a full page, 4096 / (K + 4 + W) rounded down, and 1.
+ * Refused: 1 to 5 as the full check refuses.
+ */
+uint32_t dwarnizza_index_bound(const uint8_t *index, size_t index_len,
+                               uint64_t answer[8]);
 
 #ifdef __cplusplus
 }

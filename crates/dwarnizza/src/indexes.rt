@@ -2,12 +2,15 @@
 use crate::answer::refused;
 use entries::Listed;
 use index::Checked;
+use lookup::Answer;
+use lookup::Bounded;
 ghost use mathlib.Core.Path.{_≡_};
 ghost use lib.ListN.{length};
 ghost use Rattle.refusal.specs.Output.{filled};
 ghost use Rattle.index.specs.Check.{checkOutcome};
 ghost use Rattle.index.specs.Entries.{listOf};
 ghost use Rattle.entries.specs.List.{listCheck, listOutcome};
+ghost use Rattle.lookup.specs.Lookup.{lookupOf, boundOf};
 ghost use Rattle.dwarnizza.specs.Answer.{result, wordsOf};
 
 // The full check: version, offset width, key length, entries and pages.
@@ -44,6 +47,47 @@ pub extern "C" fn dwarnizza_index_list(
     match entries::list(index, output) {
         Listed::Refused(r) => refused(r, answer),
         Listed::Written(n) => {
+            *answer = [n as u64, 0, 0, 0, 0, 0, 0, 0];
+            0
+        }
+    }
+}
+
+// The lookup of a key: page, slot, size, location and comparisons; of an absent key, the comparisons.
+#[no_mangle]
+pub extern "C" fn dwarnizza_index_lookup(index: &[u8], key: &[u8], answer: &mut [u64; 8]) -> u32
+    ensures { λ r. ⌜ r ≡ result (lookupOf (now (index .entry)) (now (key .entry))) ⌝ }
+    ensures { λ _. ⌜ now (answer .exit) ≡ wordsOf (lookupOf (now (index .entry)) (now (key .entry))) ⌝ }
+{
+    match lookup::lookup(index, key) {
+        Answer::Refused(r) => refused(r, answer),
+        Answer::Absent(n) => {
+            *answer = [0, 0, 0, 0, n as u64, 0, 0, 0];
+            1
+        }
+        Answer::Found(e) => {
+            let page = e.page;
+            let slot = e.slot;
+            let p = page.0 as u64;
+            let i = slot.0 as u64;
+            let size = e.size as u64;
+            let location = e.location;
+            let compared = e.compared as u64;
+            *answer = [p, i, size, location, compared, 0, 0, 0];
+            0
+        }
+    }
+}
+
+// The most stored keys that a lookup in an index compares.
+#[no_mangle]
+pub extern "C" fn dwarnizza_index_bound(index: &[u8], answer: &mut [u64; 8]) -> u32
+    ensures { λ r. ⌜ r ≡ result (boundOf (now (index .entry))) ⌝ }
+    ensures { λ _. ⌜ now (answer .exit) ≡ wordsOf (boundOf (now (index .entry))) ⌝ }
+{
+    match lookup::bound(index) {
+        Bounded::Refused(r) => refused(r, answer),
+        Bounded::Comparisons(n) => {
             *answer = [n as u64, 0, 0, 0, 0, 0, 0, 0];
             0
         }

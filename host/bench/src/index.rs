@@ -7,7 +7,8 @@ use second::index::{PAGE, Settings};
 
 use crate::measure::{BATCH, Contender, ROUNDS, seconds};
 
-const SETTINGS: Settings = Settings {
+/// The settings of all indexes here.
+pub const SETTINGS: Settings = Settings {
     version: 1,
     offset_width: 4,
     key_length: 16,
@@ -115,7 +116,8 @@ fn list_seconds(index: &[u8], pages: &[u8], list: &[u8]) -> [f64; 3] {
     ])
 }
 
-fn timed<const N: usize>(mut contenders: [Contender; N]) -> [f64; N] {
+/// As `seconds`, for so many contenders.
+pub fn timed<const N: usize>(mut contenders: [Contender; N]) -> [f64; N] {
     seconds(&mut contenders)
         .try_into()
         .expect("each contender has its time")
@@ -137,7 +139,7 @@ fn md5_of_each(pages: &[u8]) -> u8 {
 
 /// So many entries, whose keys, sizes and locations are spread by a fixed rule: the first eight
 /// bytes of the keys are evenly apart.
-fn list(entries: usize) -> Vec<u8> {
+pub fn list(entries: usize) -> Vec<u8> {
     let step = u64::MAX / entries as u64;
     let mut list = Vec::with_capacity(entries * SETTINGS.entry_len());
     for number in 0..entries as u64 {
@@ -150,7 +152,7 @@ fn list(entries: usize) -> Vec<u8> {
 }
 
 /// The index of a list.
-fn index(list: &[u8]) -> Vec<u8> {
+pub fn index(list: &[u8]) -> Vec<u8> {
     let entries = list.len() / SETTINGS.entry_len();
     let mut index = vec![0; SETTINGS.file_len(entries)];
     second::index::write(SETTINGS, list, &mut index).expect("the list may be written");

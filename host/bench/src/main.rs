@@ -3,6 +3,7 @@
 //! One module for each benchmark. Run with `cargo run --release --offline -p bench -- NAME`.
 
 mod index;
+mod lookup;
 mod md5;
 mod measure;
 
@@ -10,7 +11,11 @@ use std::env;
 use std::process::ExitCode;
 
 /// Each benchmark by its name.
-const BENCHMARKS: [(&str, fn()); 2] = [("md5", md5::run), ("index", index::run)];
+const BENCHMARKS: [(&str, fn()); 3] = [
+    ("md5", md5::run),
+    ("index", index::run),
+    ("lookup", lookup::run),
+];
 
 fn main() -> ExitCode {
     let arguments: Vec<_> = env::args_os().skip(1).collect();

@@ -29,6 +29,11 @@ pub enum Error {
         name: OsString,
         refusal: Refusal,
     },
+    /// This is not the text of a key, which has so many digits.
+    KeyText {
+        text: OsString,
+        digits: usize,
+    },
     /// A new file could not be made or filled.
     Create {
         name: OsString,
@@ -44,6 +49,11 @@ impl fmt::Display for Error {
             Error::Usage(what) => f.write_str(what),
             Error::Read { name, error } => write!(f, "cannot read {}: {error}", name.display()),
             Error::Refused { name, refusal } => write!(f, "{}: {refusal}", name.display()),
+            Error::KeyText { text, digits } => write!(
+                f,
+                "{}: not a key of this index, which is {digits} hex digits",
+                text.display()
+            ),
             Error::Create { name, error } => {
                 write!(f, "cannot write {}: {error}", name.display())
             }
@@ -57,7 +67,16 @@ pub fn report(error: &Error) {
     eprintln!("dwarnizza: {error}");
 }
 
-/// The operands of a subcommand without options. After `--` they may begin with a dash.
+/// Whether this option is given, and the arguments without it. After `--` it is none.
+pub fn take_option(arguments: &[OsString], option: &str) -> (bool, Vec<OsString>) {
+    let end = arguments.iter().position(|argument| argument == "--");
+    let (options, rest) = arguments.split_at(end.unwrap_or(arguments.len()));
+    let others = options.iter().filter(|argument| *argument != option);
+    let given = options.iter().any(|argument| argument == option);
+    (given, others.chain(rest).cloned().collect())
+}
+
+/// The operands of a subcommand without other options. After `--` they may begin with a dash.
 pub fn operands(arguments: &[OsString]) -> Result<Vec<&OsStr>, Error> {
     let mut operands = Vec::new();
     let mut arguments = arguments.iter().map(OsString::as_os_str);

@@ -5,6 +5,7 @@
 mod check;
 mod command;
 mod list;
+mod lookup;
 mod md5;
 
 use std::env;
@@ -14,7 +15,7 @@ use std::process::ExitCode;
 
 use command::{Command, Error, report};
 
-const COMMANDS: &[Command] = &[check::COMMAND, list::COMMAND, md5::COMMAND];
+const COMMANDS: &[Command] = &[check::COMMAND, list::COMMAND, lookup::COMMAND, md5::COMMAND];
 
 fn main() -> ExitCode {
     let arguments: Vec<OsString> = env::args_os().skip(1).collect();

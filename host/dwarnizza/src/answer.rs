@@ -3,6 +3,7 @@
 use crate::refusal::{Link, Refusal};
 
 const ANSWERED: u32 = 0;
+const ABSENT: u32 = 1;
 const REFUSED: u32 = 2;
 
 /// An answer that no call leaves.
@@ -16,6 +17,24 @@ pub fn answered(call: impl FnOnce(&mut [u64; 8]) -> u32) -> Result<[u64; 8], Ref
         ANSWERED => Ok(words),
         REFUSED => Err(refusal(&words)),
         result => panic!("the library gave the result {result} where it answers or refuses"),
+    }
+}
+
+/// The words of the answer to a search.
+#[derive(Clone, Copy, Debug, PartialEq, Eq)]
+pub enum Search {
+    Found([u64; 8]),
+    Absent([u64; 8]),
+}
+
+/// Makes a call that finds, misses or refuses, and gives the words of its answer.
+pub fn searched(call: impl FnOnce(&mut [u64; 8]) -> u32) -> Result<Search, Refusal> {
+    let mut words = [0; 8];
+    match call(&mut words) {
+        ANSWERED => Ok(Search::Found(words)),
+        ABSENT => Ok(Search::Absent(words)),
+        REFUSED => Err(refusal(&words)),
+        result => panic!("the library gave the result {result}, which is none"),
     }
 }
 
@@ -37,14 +56,21 @@ fn refusal(words: &[u64; 8]) -> Refusal {
 mod tests {
     use super::*;
 
+    const WORDS: [u64; 8] = [1, 2, 3, 4, 5, 6, 7, 8];
+
+    /// A call that leaves these words and this result.
+    fn call(words: [u64; 8], result: u32) -> impl Fn(&mut [u64; 8]) -> u32 {
+        move |answer| {
+            *answer = words;
+            result
+        }
+    }
+
     #[test]
     fn an_answer_keeps_its_words() {
-        let words = [1, 2, 3, 4, 5, 6, 7, 8];
-        let call = |answer: &mut [u64; 8]| {
-            *answer = words;
-            ANSWERED
-        };
-        assert_eq!(answered(call), Ok(words));
+        assert_eq!(answered(call(WORDS, ANSWERED)), Ok(WORDS));
+        assert_eq!(searched(call(WORDS, ANSWERED)), Ok(Search::Found(WORDS)));
+        assert_eq!(searched(call(WORDS, ABSENT)), Ok(Search::Absent(WORDS)));
     }
 
     #[test]
@@ -56,16 +82,14 @@ mod tests {
             Some(Link::Index),
         ];
         for (word, link) in (0..).zip(links) {
-            let call = |answer: &mut [u64; 8]| {
-                *answer = [8, 3, word, 0, 0, 0, 0, 0];
-                REFUSED
-            };
+            let call = call([8, 3, word, 0, 0, 0, 0, 0], REFUSED);
             let refusal = Refusal {
                 number: 8,
                 place: 3,
                 link,
             };
-            assert_eq!(answered(call), Err(refusal));
+            assert_eq!(answered(&call), Err(refusal));
+            assert_eq!(searched(&call), Err(refusal));
         }
     }
 }

@@ -41,4 +41,14 @@ unsafe extern "C" {
         output_len: usize,
         answer: &mut [u64; 8],
     ) -> u32;
+
+    pub fn dwarnizza_index_lookup(
+        index: *const u8,
+        index_len: usize,
+        key: *const u8,
+        key_len: usize,
+        answer: &mut [u64; 8],
+    ) -> u32;
+
+    pub fn dwarnizza_index_bound(index: *const u8, index_len: usize, answer: &mut [u64; 8]) -> u32;
 }

@@ -1,5 +1,9 @@
 //! Archive indexes: for each encoding key, its encoded size and location.
 
+mod lookup;
+
+pub use lookup::{Entry, Lookup, Page, Slot, bound, lookup};
+
 use crate::answer::answered;
 use crate::ffi;
 use crate::refusal::Refusal;

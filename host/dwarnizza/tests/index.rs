@@ -1,14 +1,18 @@
 //! Archive indexes by the library against the second program.
 
+mod compare;
 mod forge;
 mod random;
 
 use std::fmt;
-use std::thread;
 
+use compare::{Context, in_library_terms};
 use dwarnizza::index::{Settings, Summary};
 use dwarnizza::{Refusal, refusal};
-use forge::{COUNT, FOOTER_HASH, Fault, HASH_LENGTH, IndexFile, VERSION, flip, random_list, spoil};
+use forge::{
+    COUNT, FOOTER_HASH, Fault, HASH_LENGTH, IndexFile, VERSION, all_settings, counted_list, flip,
+    keys, random_list, settings, spoil,
+};
 use random::Random;
 use second::index::{FOOTER, MOST_ENTRIES, PAGE};
 
@@ -22,14 +26,6 @@ fn refused(number: u32, place: usize) -> Answer {
     }))
 }
 
-fn in_library_terms(refusal: second::refusal::Refusal) -> Refusal {
-    Refusal {
-        number: refusal.number,
-        place: refusal.place,
-        link: None,
-    }
-}
-
 fn in_library_settings(settings: second::index::Settings) -> Settings {
     let second::index::Settings {
         version,
@@ -41,24 +37,6 @@ fn in_library_settings(settings: second::index::Settings) -> Settings {
         offset_width,
         key_length,
     }
-}
-
-fn settings(key_length: u8, offset_width: u8) -> second::index::Settings {
-    second::index::Settings {
-        version: 1,
-        offset_width,
-        key_length,
-    }
-}
-
-/// All key lengths with all offset widths.
-fn all_settings() -> impl Iterator<Item = second::index::Settings> {
-    (1..=16).flat_map(|key_length| (4..=6).map(move |width| settings(key_length, width)))
-}
-
-/// How many keys of this length there are, or a number that is enough here.
-fn keys(settings: second::index::Settings) -> usize {
-    1 << (8 * settings.key_len()).min(32)
 }
 
 /// The full check by the second program.
@@ -500,17 +478,6 @@ fn keys_are_compared_whole_and_unsigned() {
     }
 }
 
-/// A list whose keys count from 0, with sizes and locations that fall.
-fn counted_list(settings: second::index::Settings, entries: usize) -> Vec<u8> {
-    let mut list = Vec::new();
-    for number in 0..entries {
-        let key = (number as u128).to_be_bytes();
-        list.extend(&key[key.len() - settings.key_len()..]);
-        list.resize((number + 1) * settings.entry_len(), !number as u8);
-    }
-    list
-}
-
 /// How often each answer was given.
 #[derive(Default)]
 struct Tally {
@@ -557,20 +524,6 @@ impl fmt::Display for Tally {
     }
 }
 
-/// Says, where a comparison fails, of which file.
-struct Context {
-    number: u64,
-    kind: &'static str,
-}
-
-impl Drop for Context {
-    fn drop(&mut self) {
-        if thread::panicking() {
-            eprintln!("file {} ({})", self.number, self.kind);
-        }
-    }
-}
-
 /// Good files and files with random faults of every kind.
 #[test]
 fn a_hundred_thousand_files() {
@@ -580,7 +533,7 @@ fn a_hundred_thousand_files() {
     let mut random = Random::new();
     let mut tally = Tally::default();
     while tally.files < FILES {
-        let good = random_good(&mut random);
+        let good = IndexFile::random_layout(&mut random);
         for _ in 0..FROM_EACH {
             let (kind, file) = spoil(&mut random, &good);
             let _context = Context {
@@ -597,27 +550,4 @@ fn a_hundred_thousand_files() {
             "no file was refused with {number}"
         );
     }
-}
-
-/// A good file of any settings, mostly of few pages.
-fn random_good(random: &mut Random) -> IndexFile {
-    let settings = second::index::Settings {
-        version: random.up_to(1) as u8,
-        offset_width: 4 + random.up_to(2) as u8,
-        key_length: 1 + random.up_to(15) as u8,
-    };
-    let full = settings.entries_per_page();
-    let entries = match random.up_to(9) {
-        0 => 0,
-        1 => 1,
-        2 => full - 1,
-        3 => full,
-        4 => full + 1,
-        5 => 2 * full,
-        6 => 2 * full + 1,
-        7 => 1 + random.up_to(9),
-        8 => random.up_to(full),
-        _ => random.up_to(4 * full),
-    };
-    IndexFile::random(random, settings, entries.min(keys(settings)))
 }

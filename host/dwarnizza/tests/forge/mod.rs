@@ -19,6 +19,25 @@ pub const FOOTER_HASH: Range<usize> = 20..28;
 /// How many bytes of an MD5 are stored.
 const HASH: usize = 8;
 
+/// Version 1 with these.
+pub fn settings(key_length: u8, offset_width: u8) -> Settings {
+    Settings {
+        version: 1,
+        offset_width,
+        key_length,
+    }
+}
+
+/// All key lengths with all offset widths.
+pub fn all_settings() -> impl Iterator<Item = Settings> {
+    (1..=16).flat_map(|key_length| (4..=6).map(move |width| settings(key_length, width)))
+}
+
+/// How many keys of this length there are, or a number that is enough here.
+pub fn keys(settings: Settings) -> usize {
+    1 << (8 * settings.key_len()).min(32)
+}
+
 /// A file with the layout that it was made by.
 #[derive(Clone)]
 pub struct IndexFile {
@@ -58,6 +77,29 @@ impl IndexFile {
     /// A good file of random entries.
     pub fn random(random: &mut Random, settings: Settings, entries: usize) -> Self {
         Self::new(settings, &random_list(random, settings, entries))
+    }
+
+    /// A good file of any settings, mostly of few pages.
+    pub fn random_layout(random: &mut Random) -> Self {
+        let settings = Settings {
+            version: random.up_to(1) as u8,
+            offset_width: 4 + random.up_to(2) as u8,
+            key_length: 1 + random.up_to(15) as u8,
+        };
+        let full = settings.entries_per_page();
+        let entries = match random.up_to(9) {
+            0 => 0,
+            1 => 1,
+            2 => full - 1,
+            3 => full,
+            4 => full + 1,
+            5 => 2 * full,
+            6 => 2 * full + 1,
+            7 => 1 + random.up_to(9),
+            8 => random.up_to(full),
+            _ => random.up_to(4 * full),
+        };
+        Self::random(random, settings, entries.min(keys(settings)))
     }
 
     pub fn pages(&self) -> usize {
@@ -183,6 +225,17 @@ pub enum Fault {
     Order(usize),
     /// 9.
     LastKey(usize),
+}
+
+/// A list whose keys count from 0, with sizes and locations that fall.
+pub fn counted_list(settings: Settings, entries: usize) -> Vec<u8> {
+    let mut list = Vec::new();
+    for number in 0..entries {
+        let key = (number as u128).to_be_bytes();
+        list.extend(&key[key.len() - settings.key_len()..]);
+        list.resize((number + 1) * settings.entry_len(), !number as u8);
+    }
+    list
 }
 
 /// A list of random entries whose keys rise: there must be so many keys.

@@ -1,0 +1,246 @@
+-- Laws of the halving rule and of binary digits.
+use mathlib.Core.Path.{_≡_, refl, sym, ap, _∙_}
+use mathlib.Core.Bool.{Bool, true, false}
+use Prim.Native.Nat.{ℕ, zero, suc, _+_, _-_, _*_, _/_, _^_, _≤_, _<_}
+use native.Mathlib.Nat.{add-zero, zero-add, mul-le-mul, pow-suc}
+use native.Mathlib.Decide.{decLt}
+use native.Mathlib.Omega.{arith}
+use lib.Count.{leadingZeros, leading-unique}
+use lib.Dec.{ltb}
+use lib.Pow.{pow-mono}
+use mir.Syntax.{w64}
+use mir.Val.{Fits}
+use borrow.Author.Tests.{ne-eqb, ltb-true, ltb-false}
+use Rattle.halving.specs.declared.Halved.{Halved}
+use Rattle.halving.specs.Halving.{halvedOnce, halving, halve, leastOr, digitsFrom, digits}
+
+by-test : {P : Type 0} (b : Bool) → (b ≡ true → P) → (b ≡ false → P) → P
+by-test true t f = t refl
+by-test false t f = f refl
+
+pub true-or-false : {b : Bool} → b ≡ true → b ≡ false → ⊥
+true-or-false t f = let z : _≡_ {A = ℕ} 0 1 = cc in omega arith
+
+pub by-order : {P : Type 0} (m n : ℕ) → (m < n → P) → (n ≤ m → P) → P
+by-order {P} m n less other = go (decLt m n)
+  where
+    go : Dec (m < n) → P
+    go (yes l) = less l
+    go (no l) = other (omega arith)
+
+-- ---- binary digits
+
+-- The least d with n below 2 ^ d.
+pub record Least (n d : ℕ) : Type 0 where
+  pub below : n < 2 ^ d
+  pub least : (e : ℕ) → n < 2 ^ e → d ≤ e
+
+below-power : (k : ℕ) → k < 2 ^ k
+below-power zero = omega arith
+below-power (suc k) = omega (arith, below-power k, pow-suc 2 k)
+
+module _ (n : ℕ) where
+  from-least : (turns d : ℕ) → n < 2 ^ (d + turns) → ((e : ℕ) → n < 2 ^ e → d ≤ e) → Least n (digitsFrom turns n d)
+  unfolding digitsFrom leastOr
+  from-least zero d h l = record { below = rw add-zero at h; least = l }
+  from-least (suc turns) d h l =
+      let shift : d + suc turns ≡ d + 1 + turns = omega arith in
+      by-test (ltb n (2 ^ d))
+      (λ t. rw t (record { below = ltb-true n (2 ^ d) t; least = l }))
+      (λ t. rw t
+      (from-least turns (d + 1) (rw shift at h)
+      (λ e m. by-order d e (λ k. omega arith) (λ k. absurd (omega (arith, pow-mono k, ltb-false n (2 ^ d) t))))))
+
+  pub digits-least : Least n (digits n)
+  unfolding digits
+  digits-least = from-least n 0 (rw zero-add (below-power n)) (λ e m. omega arith)
+
+pub digits-none : digits 0 ≡ 0
+unfolding digits digitsFrom
+digits-none = refl
+
+-- at the most entries that an index has
+pub digits-limit : digits 8388608 ≡ 24
+unfolding digits digitsFrom leastOr
+digits-limit = refl
+
+pub digits-mono : {m n : ℕ} → m ≤ n → digits m ≤ digits n
+digits-mono {m} {n} h = digits-least m .least (digits n) (omega (arith, digits-least n .below))
+
+-- No fewer digits hold n.
+digits-short : (n d : ℕ) → Least n d → 2 ^ d ≤ 2 * n + 1
+digits-short n zero l = omega arith
+digits-short n (suc d) l =
+    by-order n (2 ^ d) (λ h. absurd (omega (arith, l .least d h))) (λ h. omega (arith, pow-suc 2 d))
+
+-- The width less the leading zeros.
+pub digits-width : (w n : ℕ) → n < 2 ^ w → w - leadingZeros w n ≡ digits n
+digits-width w n h =
+    let l = digits-least n in
+    let d : digits n ≤ w = l .least w h in
+    omega (arith, leading-unique w n (w - digits n) (digits n) (omega arith) (l .below) (digits-short n (digits n) l))
+
+-- What holds at every number of digits that holds the half of v, with one more, holds at every number that holds v.
+one-digit-less : (v half count c : ℕ) → 0 < v → half ≤ v / 2 → ((d : ℕ) → half < 2 ^ d → c ≤ count + 1 + d) → (d : ℕ) → v < 2 ^ d → c ≤ count + d
+one-digit-less v half count c some small p zero h = absurd (omega arith)
+one-digit-less v half count c some small p (suc d) h = omega (arith, p d (omega (arith, pow-suc 2 d)))
+
+-- ---- the halving rule
+
+module _ (below : ℕ → Bool) where
+  stop-at-none : (turns start count : ℕ) → halving turns below start 0 count ≡ record { place = start; count = count }
+  unfolding halving halvedOnce
+  stop-at-none zero start count = refl
+  stop-at-none (suc turns) start count = refl
+
+  module _ (turns start w count : ℕ) (some : 0 < w) where
+    go-after : below (start + w / 2) ≡ true → halving (suc turns) below start w count ≡ halving turns below (start + w / 2 + 1) (w - w / 2 - 1) (count + 1)
+    unfolding halving halvedOnce
+    go-after h = rw (ne-eqb w 0 (omega arith), h)
+
+    go-before : below (start + w / 2) ≡ false → halving (suc turns) below start w count ≡ halving turns below start (w / 2) (count + 1)
+    unfolding halving halvedOnce
+    go-before h = rw (ne-eqb w 0 (omega arith), h)
+
+  -- What holds where no key is left, and of a range where it holds of the part that the rule goes on with, holds of every range.
+  by-halving : (P : ℕ → ℕ → ℕ → Halved → Type 0)
+      → ((start count : ℕ) → P start 0 count (record { place = start; count = count }))
+      → ((start w count : ℕ) (r : Halved) → 0 < w → below (start + w / 2) ≡ true → P (start + w / 2 + 1) (w - w / 2 - 1) (count + 1) r → P start w count r)
+      → ((start w count : ℕ) (r : Halved) → 0 < w → below (start + w / 2) ≡ false → P start (w / 2) (count + 1) r → P start w count r)
+      → (turns start w count : ℕ) → w ≤ turns → P start w count (halving turns below start w count)
+  by-halving P none after before zero start w count h =
+      let e : w ≡ 0 = omega arith in
+      rw (e, stop-at-none) (none start count)
+  by-halving P none after before (suc turns) start w count h =
+      by-order 0 w
+      (λ some. by-test (below (start + w / 2))
+      (λ t. rw (go-after turns start w count some t)
+      (after start w count _ some t (by-halving P none after before turns _ _ _ (omega arith))))
+      (λ t. rw (go-before turns start w count some t)
+      (before start w count _ some t (by-halving P none after before turns _ _ _ (omega arith)))))
+      (λ l. let e : w ≡ 0 = omega arith in
+      rw (e, stop-at-none) (none start count))
+
+  -- The place lies in the range, or just after it.
+  pub halve-place : (w : ℕ) → halve below w .place ≤ w
+  unfolding halve
+  halve-place w =
+      by-halving (λ start v count r. start + v ≤ w → r .place ≤ w)
+      (λ start count h. omega arith)
+      (λ start v count r some t p h. p (omega arith))
+      (λ start v count r some t p h. p (omega arith))
+      w 0 w 0 (omega arith) (omega arith)
+
+  -- At most as many keys are compared as the range has binary digits.
+  pub halve-count : (w : ℕ) → halve below w .count ≤ digits w
+  unfolding halve
+  halve-count w =
+      let counted = by-halving (λ start v count r. (d : ℕ) → v < 2 ^ d → r .count ≤ count + d)
+      (λ start count d h. omega arith)
+      (λ start v count r some t p. one-digit-less v _ _ _ some (omega arith) p)
+      (λ start v count r some t p. one-digit-less v _ _ _ some (omega arith) p)
+      w 0 w 0 (omega arith) (digits w) (digits-least w .below) in
+      omega arith
+
+  pub halve-most : (w : ℕ) → w < 2 ^ 32 → halve below w .count ≤ 32
+  halve-most w h = omega (arith, halve-count w, digits-least w .least 32 h)
+
+-- The place of the first of w keys that is not below; w where there is none.
+pub record First (below : ℕ → Bool) (w place : ℕ) : Type 0 where
+  pub inside : place ≤ w
+  pub before : (i : ℕ) → i < place → below i ≡ true
+  pub stops : place < w → below place ≡ false
+
+-- Where a key is below, so is every one before it.
+pub record Rising (below : ℕ → Bool) (w : ℕ) : Type 0 where
+  pub earlier : (i j : ℕ) → i < j → j < w → below j ≡ true → below i ≡ true
+
+-- Over rising keys the halving rule finds the first that is not below.
+pub halve-first : (below : ℕ → Bool) (w : ℕ) → Rising below w → First below w (halve below w .place)
+unfolding halve
+halve-first below w rising =
+    by-halving below
+    (λ start v count r. start + v ≤ w → ((i : ℕ) → i < start → below i ≡ true) → (start + v < w → below (start + v) ≡ false) → First below w (r .place))
+    (λ start count h before stops. record { inside = omega arith; before = before; stops = rw add-zero at stops })
+    (λ start v count r some t p h before stops.
+    let same : start + v / 2 + 1 + (v - v / 2 - 1) ≡ start + v = omega arith in
+    p (omega arith)
+    (λ i l. by-order i (start + v / 2)
+    (λ m. rising .earlier i (start + v / 2) m (omega arith) t)
+    (λ m. let e : i ≡ start + v / 2 = omega arith in cc))
+    (rw same stops))
+    (λ start v count r some t p h before stops. p (omega arith) before (λ l. t))
+    w 0 w 0 (omega arith) (omega arith) (λ i h. absurd (omega arith)) (λ h. absurd (omega arith))
+
+pub first-unique : {below : ℕ → Bool} {w p q : ℕ} → First below w p → First below w q → p ≡ q
+first-unique {below} {w} {p} {q} f g =
+    by-order p q (λ l. absurd (true-or-false (g .before p l) (f .stops (omega (arith, g .inside)))))
+    (λ m. by-order q p (λ l. absurd (true-or-false (f .before q l) (g .stops (omega (arith, f .inside))))) (λ l. omega arith))
+
+-- The halving asks of no key outside the range.
+pub halve-agree : (p q : ℕ → Bool) (w : ℕ) → ((i : ℕ) → i < w → p i ≡ q i) → halve p w ≡ halve q w
+unfolding halve
+halve-agree p q w same =
+    by-halving p (λ start v count r. start + v ≤ w → (turns : ℕ) → v ≤ turns → r ≡ halving turns q start v count)
+    (λ start count h turns l. sym (stop-at-none q turns start count))
+    (λ start v count r some t ih h. elim [
+      | zero ↦ λ l. absurd (omega arith)
+      | suc turns ↦ λ l. ih (omega arith) turns (omega arith) ∙ sym (go-after q turns start v count some (sym (same _ (omega arith)) ∙ t))
+    ])
+    (λ start v count r some t ih h. elim [
+      | zero ↦ λ l. absurd (omega arith)
+      | suc turns ↦ λ l. ih (omega arith) turns (omega arith) ∙ sym (go-before q turns start v count some (sym (same _ (omega arith)) ∙ t))
+    ])
+    w 0 w 0 (omega arith) (omega arith) w (omega arith)
+
+-- ---- turn by turn
+
+-- Where a key stands.
+pub offset-fits : {i stride : ℕ} → i < 2 ^ 32 → stride < 2 ^ 16 → Fits w64 (i * stride)
+offset-fits {i} {stride} h k =
+    let a : i ≤ 4294967295 = omega arith in
+    let b : stride ≤ 65535 = omega arith in
+    let most = mul-le-mul a b in
+    record { fits = omega arith }
+
+-- After some turns: what is left of the range, and the comparisons so far.
+pub record Reached (below : ℕ → Bool) (w start left count : ℕ) : Type 0 where
+  pub turns : ℕ
+  pub enough : left ≤ turns
+  pub inside : start + left ≤ w
+  pub counted : count + left ≤ w
+  pub rest : halve below w ≡ halving turns below start left count
+
+pub reached-whole : (below : ℕ → Bool) (w : ℕ) → Reached below w 0 w 0
+unfolding halve
+reached-whole below w = record { turns = w; enough = omega arith; inside = omega arith; counted = omega arith; rest = refl }
+
+module _ {below : ℕ → Bool} {w start left count : ℕ} (r : Reached below w start left count) where
+  reached-next : (next rest : ℕ) → rest < left → next + rest ≤ w
+      → ((turns : ℕ) → halving (suc turns) below start left count ≡ halving turns below next rest (count + 1))
+      → Reached below w next rest (count + 1)
+  reached-next next rest less room step = go (r .turns) (r .enough) (r .rest)
+    where
+      go : (turns : ℕ) → left ≤ turns → halve below w ≡ halving turns below start left count → Reached below w next rest (count + 1)
+      go zero e h = absurd (omega arith)
+      go (suc turns) e h = record {
+        turns = turns;
+        enough = omega arith;
+        inside = room;
+        counted = omega arith;
+        rest = h ∙ step turns;
+      }
+
+  pub reached-after : 0 < left → below (start + left / 2) ≡ true → Reached below w (start + left / 2 + 1) (left - left / 2 - 1) (count + 1)
+  reached-after some t = reached-next _ _ (omega arith) (omega arith) (λ turns. go-after below turns start left count some t)
+
+  pub reached-before : 0 < left → below (start + left / 2) ≡ false → Reached below w start (left / 2) (count + 1)
+  reached-before some t = reached-next _ _ (omega arith) (omega arith) (λ turns. go-before below turns start left count some t)
+
+  pub reached-end : left ≤ 0 → halve below w ≡ record { place = start; count = count }
+  reached-end none =
+      let e : left ≡ 0 = omega arith in
+      r .rest ∙ rw (e, stop-at-none)
+
+  pub reached-most : left ≤ 0 → w < 2 ^ 32 → count ≤ 32
+  reached-most none h = omega (arith, ap (λ r. r .count) (reached-end none), halve-most below w h)

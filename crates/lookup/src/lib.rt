@@ -1,0 +1,151 @@
+// The lookup of a key in an archive index, by the halving rule, and how many stored keys it may compare.
+use field::big;
+use field::equal;
+use field::part;
+use halving::Halved;
+use halving::digits;
+use halving::halve;
+use index::Checked;
+use index::Layout;
+use index::Page;
+use index::Slot;
+use refusal::INDEX_KEY_LENGTH;
+use refusal::Refusal;
+ghost use mathlib.Core.Path.{_≡_};
+ghost use mathlib.Core.List.{[], _∷_};
+ghost use Prim.Native.Nat.{_≤_};
+ghost use lib.ListN.{length};
+ghost use Rattle.refusal.specs.Outcome.{answered};
+ghost use Rattle.lookup.specs.Lookup as spec;
+
+// A found entry, and how many stored keys were compared.
+pub struct Entry {
+    pub page: Page,
+    pub slot: Slot,
+    pub size: u32,
+    pub location: u64,
+    pub compared: u32,
+}
+
+// What a lookup answers. An absent key comes with the number of stored keys compared.
+pub enum Answer {
+    Found(Entry),
+    Absent(u32),
+    Refused(Refusal),
+}
+
+// What the bound of an index's lookups answers.
+pub enum Bounded {
+    Comparisons(u32),
+    Refused(Refusal),
+}
+
+// The archive number in a location of six bytes.
+pub fn archive(location: u64) -> u32
+    ensures { λ r. ⌜ r ≡ spec.archiveOf location ⌝ }
+{
+    (location / 4_294_967_296) as u32
+}
+
+// The offset in a location of six bytes.
+pub fn offset(location: u64) -> u32
+    ensures { λ r. ⌜ r ≡ spec.offsetOf location ⌝ }
+{
+    (location % 4_294_967_296) as u32
+}
+
+// Halves over the last keys.
+fn find_page(index: &[u8], l: Layout, key: &[u8]) -> Halved
+    requires { ⌜ length (now key) ≡ l .key ⌝ }
+    ensures { λ r. ⌜ r ≡ spec.pageHalved (spec.storedIn (now (index .entry)) l (now (key .entry))) ⌝ }
+    ensures { λ r. ⌜ r .count ≤ 32 ⌝ }
+{
+    let last_keys = part(index, l.last_key_at(Page(0)), index.len());
+    halve(last_keys, l.key as u16, l.pages, key)
+}
+
+// Halves over a page's entries.
+fn find_slot(index: &[u8], l: Layout, key: &[u8], page: Page) -> Halved
+    requires { ⌜ length (now key) ≡ l .key ⌝ }
+    ensures { λ r. ⌜ r ≡ spec.slotHalved (spec.storedIn (now (index .entry)) l (now (key .entry))) (page .0) ⌝ }
+    ensures { λ r. ⌜ r .count ≤ 32 ⌝ }
+{
+    let entries = part(index, l.entry_at(page, Slot(0)), index.len());
+    halve(entries, l.entry_size() as u16, l.on_page(page) as u32, key)
+}
+
+// The entry in a slot.
+fn found(index: &[u8], l: Layout, page: Page, slot: Slot, compared: u32) -> Answer
+    requires { ⌜ l .offset ≤ 8 ⌝ }
+    ensures { λ r. ⌜ spec.outcome r ≡ answered (page .0 ∷ slot .0 ∷ spec.sizeAt (now (index .entry)) l (page .0) (slot .0) ∷ spec.locationAt (now (index .entry)) l (page .0) (slot .0) ∷ compared ∷ []) ⌝ }
+{
+    let at = l.entry_at(page, slot) + l.key as usize;
+    let size = big(index, at, 4) as u32;
+    let location = big(index, at + 4, l.offset as usize);
+    Answer::Found(Entry {
+        page,
+        slot,
+        size,
+        location,
+        compared,
+    })
+}
+
+// A page's entries, after some comparisons of last keys.
+fn seek_on(index: &[u8], l: Layout, key: &[u8], page: Page, count: u32) -> Answer
+    requires { ⌜ (length (now key) ≡ l .key) × (l .offset ≤ 8) × (count ≤ 32) ⌝ }
+    ensures { λ r. ⌜ spec.outcome r ≡ spec.toldOf (now (index .entry)) l (spec.endedOn (spec.storedIn (now (index .entry)) l (now (key .entry))) (page .0) count) ⌝ }
+{
+    let halved = find_slot(index, l, key, page);
+    let slot = halved.place;
+    let compared = count + halved.count;
+    if l.on_page(page) <= slot as usize {
+        return Answer::Absent(compared);
+    }
+    let at = l.entry_at(page, Slot(slot));
+    if !equal(part(index, at, l.key as usize), key) {
+        return Answer::Absent(compared + 1);
+    }
+    found(index, l, page, Slot(slot), compared + 1)
+}
+
+// The last keys, then the entries of the page that they tell.
+fn seek(index: &[u8], l: Layout, key: &[u8]) -> Answer
+    requires { ⌜ (length (now key) ≡ l .key) × (l .offset ≤ 8) ⌝ }
+    ensures { λ r. ⌜ spec.outcome r ≡ spec.toldOf (now (index .entry)) l (spec.ended (spec.storedIn (now (index .entry)) l (now (key .entry)))) ⌝ }
+{
+    let halved = find_page(index, l, key);
+    let page = halved.place;
+    if l.pages <= page {
+        return Answer::Absent(halved.count);
+    }
+    seek_on(index, l, key, Page(page), halved.count)
+}
+
+// Looks a key up. Refusals 1 to 5, then 10; no page is checked.
+pub fn lookup(index: &[u8], key: &[u8]) -> Answer
+    ensures { λ r. ⌜ spec.outcome r ≡ spec.lookupOf (now (index .entry)) (now (key .entry)) ⌝ }
+{
+    match index::open(index) {
+        Checked::Refused(r) => Answer::Refused(r),
+        Checked::Passed(l) => {
+            if key.len() != l.key as usize {
+                return Answer::Refused(Refusal {
+                    number: INDEX_KEY_LENGTH,
+                    place: 0,
+                });
+            }
+            seek(index, l, key)
+        }
+    }
+}
+
+// The most stored keys that a lookup in an index compares. Refusals 1 to 5.
+pub fn bound(index: &[u8]) -> Bounded
+    ensures { λ r. ⌜ spec.boundOutcome r ≡ spec.boundOf (now (index .entry)) ⌝ }
+{
+    match index::open(index) {
+        Checked::Refused(r) => Bounded::Refused(r),
+        Checked::Passed(l) => Bounded::Comparisons(digits(l.pages) + digits(l.full() as u32) + 1),
+    }
+}
