@@ -2,14 +2,14 @@
 use mathlib.Core.Path.{_≡_, refl, sym, ap, ap₂, _∙_}
 use mathlib.Core.Bool.{Bool, true, false, not, cond}
 use mathlib.Core.List.{List, [], _∷_, _++_}
-use Prim.Native.Nat.{ℕ, zero, suc, _+_, _-_, _*_, _/_, _%_, _^_, _≤_, _<_, min}
-use native.Mathlib.Nat.{le-trans, mul-le-mul, mul-le-mul-left, mul-le-mul-right, div-mul-le-self, le-div-iff-mul-le, min-le-left, add-zero, zero-mul, zero-add, add-assoc, suc-mul, not-suc-le-zero}
+use Prim.Native.Nat.{ℕ, zero, suc, _+_, _-_, _*_, _/_, _^_, _≤_, _<_}
+use native.Mathlib.Nat.{le-trans, mul-le-mul, mul-le-mul-left, mul-le-mul-right, div-mul-le-self, le-div-iff-mul-le, min-le-left, add-zero, zero-add, add-assoc, suc-mul, not-suc-le-zero}
 use native.Mathlib.Omega.{arith}
 use lib.Dec.{ltb, eqb, lit<, lit≤}
 use lib.Seq.{getD-drop}
 use lib.ListN.{length, take, drop, replicate}
 use Rattle.key.specs.Order.{compared, isBelow}
-use Rattle.md5.specs.Message.{md5, digestOr0, tooLong}
+use Rattle.md5.specs.Message.{md5, digestOr0}
 use Rattle.field.specs.Part.{partAt, sameBytes, overlay}
 use Rattle.field.specs.Number.{byteAt, bigAt}
 use Rattle.field.proofs.Laws.{bigAt-agree, partAt-inside, partAt-byte, overlay-inside}
@@ -157,10 +157,6 @@ module _ (s : List ℕ) (l : Layout) (p : ℕ) where
       ap (firstFrom (orderCheck s l p) i) none ∙ from-none (orderCheck s l p) i
 
 -- the slot after a slot
-pub entry-first : (l : Layout) (p : ℕ) → p * 4096 ≡ entryAt l p 0
-unfolding entryAt
-entry-first l p = rw (zero-mul (entrySize l), add-zero (p * 4096))
-
 pub entry-next : (l : Layout) (p i at : ℕ) → 1 ≤ i → at ≡ entryAt l p (i - 1) → at + entrySize l ≡ entryAt l p i
 unfolding entryAt
 entry-next l p zero at h e = absurd (not-suc-le-zero h)

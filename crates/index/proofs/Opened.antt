@@ -1,17 +1,17 @@
 -- What an index that passes 1 to 5 is known to be: its fields in range, its length right, its pages and their entries inside it.
 use mathlib.Core.Path.{_≡_, refl, sym, ap, ap₂, subst, _∙_}
-use mathlib.Core.Bool.{Bool, true, false, not, _&&_, and-eq-true-iff}
-use mathlib.Core.List.{List, [], _∷_, _++_, append-assoc, append-nil}
-use Prim.Native.Nat.{ℕ, zero, suc, _+_, _-_, _*_, _/_, _≤_, _<_, min}
-use native.Mathlib.Nat.{zero-add, zero-mul, sub-zero, add-zero, add-suc, suc-add, mul-add, suc-mul, mul-le-mul-left, mul-le-mul-right, le-trans, div-add-mod', mod-lt, add-mul, one-mul}
+use mathlib.Core.Bool.{not, _&&_, and-eq-true-iff}
+use mathlib.Core.List.{List}
+use Prim.Native.Nat.{ℕ, zero, suc, _+_, _-_, _*_, _≤_, _<_, min}
+use native.Mathlib.Nat.{zero-add, zero-mul, sub-zero, add-zero, suc-mul, mul-le-mul-left, mul-le-mul-right, div-add-mod', mod-lt, add-mul, one-mul}
 use native.Mathlib.Numerals.{add-one-le}
 use native.Mathlib.Omega.{arith}
-use lib.Dec.{ltb, leb, eqb}
+use lib.Dec.{ltb, leb}
 use lib.ListN.{length, length-append}
 use borrow.Author.Tests.{ltb-false, leb-true, eqb-true, not-false}
 use Rattle.field.specs.Number.{byteAt}
 use Rattle.field.proofs.Laws.{partAt-inside}
-use Rattle.refusal.specs.Check.{Check, silent, first}
+use Rattle.refusal.specs.Check.{silent, first}
 use Rattle.refusal.specs.Number.{index-short, footer-field, index-length}
 use Rattle.refusal.proofs.Laws.{silent-test, first-left, first-right}
 use Rattle.index.specs.declared.layout.Layout.{Layout}

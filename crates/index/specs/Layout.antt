@@ -1,5 +1,5 @@
 -- Where things stand in an archive index s: document 01, "Archive index".
-use mathlib.Core.List.{List, []}
+use mathlib.Core.List.{List}
 use Prim.Native.Nat.{ℕ, _+_, _-_, _*_, _/_, min}
 use lib.ListN.{length, drop}
 use Rattle.field.specs.Number.{byteAt, littleAt}

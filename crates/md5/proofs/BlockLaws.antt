@@ -1,9 +1,9 @@
 -- Laws of the definitions in specs/Block.antt.
 use mathlib.Core.Path.{_≡_, refl, sym, ap, ap₂, _∙_}
-use mathlib.Core.Bool.{Bool, true, false, _&&_, and-eq-true-iff}
+use mathlib.Core.Bool.{Bool, true, _&&_, and-eq-true-iff}
 use mathlib.Core.List.{List, [], _∷_, _++_}
-use Prim.Native.Nat.{ℕ, zero, suc, _+_, _-_, _*_, _/_, _%_, _^_, _≤_, _<_}
-use native.Mathlib.Nat.{add-zero, zero-add, add-suc, suc-add, add-assoc, not-suc-le-zero, le-of-suc-le-suc}
+use Prim.Native.Nat.{ℕ, zero, suc, _+_, _*_, _≤_, _<_}
+use native.Mathlib.Nat.{add-zero, add-suc, add-assoc, not-suc-le-zero, le-of-suc-le-suc}
 use native.Mathlib.Numerals.{add-one}
 use native.Mathlib.Omega.{arith}
 use lib.Dec.{ltb}
@@ -11,7 +11,7 @@ use borrow.Author.Tests.{ltb-true}
 use lib.ListN.{length, getD, take, drop, set}
 use lib.Seq.{drop-drop, take-suc-set, take-all}
 use Rattle.md5.specs.declared.block.Words.{Words}
-use Rattle.md5.specs.Block.{addends, shifts, wordNumber, step, steps, word, wordsOf, add, sum, block, blocks}
+use Rattle.md5.specs.Block.{shifts, step, steps, word, wordsOf, add, sum, block}
 
 -- a round that is none of the first three is the fourth
 pub past-two : (r : ℕ) → (r ≡ 0 → ⊥) → (r ≡ 1 → ⊥) → (r ≡ 2 → ⊥) → (n : ℕ) × (r ≡ suc (suc (suc n)))

@@ -2,11 +2,11 @@
 -- `Md5::new` is `started`, `Md5::update` is `absorbed` up to 2^48 bytes, and `Md5::finish` is `finished`, by their contracts.
 use mathlib.Core.Path.{_≡_, sym, ap, _∙_}
 use mathlib.Core.List.{List, [], _∷_, _++_, append-assoc, append-nil}
-use Prim.Native.Nat.{ℕ, _+_}
+use Prim.Native.Nat.{ℕ}
 use native.Mathlib.Nat.{zero-add}
 use lib.ListN.{length}
 use Rattle.md5.specs.Block.{blocks}
-use Rattle.md5.specs.Message.{Running, started, absorbed, finished, inParts, joined, md5, padding}
+use Rattle.md5.specs.Message.{Running, started, absorbed, finished, inParts, joined, md5}
 use Rattle.md5.proofs.MessageLaws.{absorbed-append, md5-whole}
 
 after-part : (v : Running) (part : List ℕ) (parts : List (List ℕ)) → inParts (absorbed v part) parts ≡ absorbed v (part ++ joined parts)

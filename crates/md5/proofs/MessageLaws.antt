@@ -9,7 +9,7 @@ use native.Mathlib.Omega.{arith}
 use borrow.Author.Tests.{lt-ltb, le-ltb, leb-true, leb-false}
 use lib.Dec.{leb}
 use lib.ListN.{length, getD, take, drop, set, replicate, length-append, length-drop, length-replicate, take-append-drop, drop-of-length-le, replicate-append-replicate}
-use lib.Seq.{getD-take, take-append-le, drop-append-le, take-length, take-nil, drop-drop, take-append-seam, drop-append-add, drop-at, take-at, set-append-seam, take-all, length-take-le, drop-cons}
+use lib.Seq.{getD-take, take-append-le, drop-append-le, take-nil, drop-drop, take-append-seam, drop-append-add, drop-at, take-at, set-append-seam, take-all, length-take-le, drop-cons}
 use Rattle.field.specs.Part.{overlay}
 use Rattle.field.proofs.Laws.{overlay-inside}
 use Rattle.md5.specs.declared.block.Words.{Words}

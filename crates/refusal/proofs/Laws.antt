@@ -9,7 +9,7 @@ use Rattle.refusal.specs.declared.Refusal.{Refusal}
 use Rattle.refusal.specs.declared.Verdict.{Verdict}
 use Rattle.refusal.specs.declared.Verdict.the-variants.{Passed, Refused}
 use Rattle.refusal.specs.Check.{Check, silent, refused, refusedIf, first, firstFrom, checkOf}
-use Rattle.refusal.specs.Outcome.{Outcome, answered, absent, refusal, after}
+use Rattle.refusal.specs.Outcome.{Outcome, answered, refusal, after}
 
 never : {number place : ℕ} → refused number place ≡ silent → ⊥
 never e = let z : _≡_ {A = ℕ} 0 1 = cc in omega arith

@@ -1,12 +1,10 @@
 -- `index::footer_hash_right`: the hash with itself taken as zero, against the stored bytes.
-use mathlib.Core.Path.{_≡_, ap, _∙_}
+use mathlib.Core.Path.{ap, _∙_}
 use Prim.Native.Nat.{_≤_}
-use native.Mathlib.Omega.{arith}
 use lib.Dec.{lit≤}
 use lib.ListN.{length, take}
 use Rattle.md5.specs.Message.{md5}
 use Rattle.refusal.specs.Number.{footer-hash}
-use Rattle.field.specs.Part.{overlay}
 use Rattle.field.proofs.Laws.{overlay-length}
 use Rattle.index.specs.Check.{footerHashCheck}
 use Rattle.index.proofs.Laws.{hash-told, hashed-is, first-eight-is}

@@ -4,11 +4,10 @@ use mathlib.Core.Bool.{true, false, not}
 use lib.Dec.{eqb}
 use lib.ListN.{length}
 use borrow.Author.Tests.{lt-ltb, le-ltb, eq-eqb, ne-eqb}
-use Rattle.refusal.specs.Check.{Check, silent}
 use Rattle.refusal.specs.Number.{index-short, index-length}
 use Rattle.refusal.proofs.Laws.{said, quiet, first-said, skip, refused-is, passed-is, after-said, after-quiet}
 use Rattle.index.specs.Layout.{footer, layoutFrom, indexLength}
-use Rattle.index.specs.Check.{footerCheck, opening, told, outcome}
+use Rattle.index.specs.Check.{footerCheck, opening, outcome}
 use Rattle.index.proofs.Laws.{count-within}
 use borrow.Author.Needs.{needs}
 use Rattle.index.proofs.open.Statement.{statement}

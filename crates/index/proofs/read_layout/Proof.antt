@@ -1,5 +1,4 @@
 -- `index::read_layout`: the fields, and the pages that the entries take.
-use mathlib.Core.Path.{refl}
 use Prim.Native.Nat.{_+_, _-_}
 use native.Mathlib.Nat.{div-le-self}
 use native.Mathlib.Omega.{arith}

@@ -1,6 +1,6 @@
 -- `md5::blocks`: what is left to do after `at` bytes is the whole blocks of the rest.
 use mathlib.Core.Path.{_≡_, refl}
-use Prim.Native.Nat.{_+_, _-_, _/_, _≤_}
+use Prim.Native.Nat.{_-_, _/_, _≤_}
 use native.Mathlib.Nat.{sub-zero}
 use lib.ListN.{length, drop}
 use borrow.Author.Needs.{needs}

@@ -1,8 +1,8 @@
 -- `md5::digest`: the digest of the message in one part, or refusal 50.
-use mathlib.Core.Path.{_≡_, refl, ap, ap₂, sym, _∙_}
+use mathlib.Core.Path.{_≡_, ap, ap₂, sym, _∙_}
 use mathlib.Core.Bool.{true, false}
 use mathlib.Core.List.{_++_}
-use Prim.Native.Nat.{_+_, _*_, _/_}
+use Prim.Native.Nat.{_*_, _/_}
 use native.Mathlib.Nat.{zero-add}
 use lib.ListN.{length}
 use Rattle.refusal.specs.Check.{refusedIf, checkOf}

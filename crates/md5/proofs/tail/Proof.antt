@@ -1,5 +1,5 @@
 -- `md5::tail`: the last bytes, the set bit, zeros and the number of bits.
-use mathlib.Core.Path.{_≡_, refl, ap, _∙_}
+use mathlib.Core.Path.{refl, ap, _∙_}
 use mathlib.Core.List.{_∷_, _++_}
 use Prim.Native.Nat.{_-_}
 use lib.ListN.{length, replicate}

@@ -1,5 +1,5 @@
 -- `dwarnizza::dwarnizza_md5`: what `digest` answers, laid out.
-use mathlib.Core.Path.{_≡_, refl, sym, ap, _∙_}
+use mathlib.Core.Path.{_≡_, sym, ap, _∙_}
 use mathlib.Core.Bool.{true, false}
 use lib.ListN.{length}
 use Rattle.refusal.specs.Check.{checkOf}

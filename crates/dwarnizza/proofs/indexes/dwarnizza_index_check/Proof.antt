@@ -1,5 +1,5 @@
 -- `dwarnizza::indexes::dwarnizza_index_check`: what `index::check` answers, laid out.
-use mathlib.Core.Path.{refl, sym, ap, _∙_}
+use mathlib.Core.Path.{sym, ap, _∙_}
 use Rattle.index.specs.Check.{told, outcome}
 use Rattle.dwarnizza.specs.Answer.{result, wordsOf}
 use borrow.Author.Needs.{needs}

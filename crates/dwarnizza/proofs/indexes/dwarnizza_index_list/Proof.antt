@@ -1,5 +1,5 @@
 -- `dwarnizza::indexes::dwarnizza_index_list`: what `entries::list` answers, laid out.
-use mathlib.Core.Path.{refl, sym, ap, _∙_}
+use mathlib.Core.Path.{sym, ap, _∙_}
 use Rattle.entries.specs.List.{outcome}
 use Rattle.dwarnizza.specs.Answer.{result, wordsOf}
 use borrow.Author.Needs.{needs}

@@ -1,6 +1,6 @@
 -- `index::pages::check_order`: the first entry, then the rest.
 use mathlib.Core.Path.{_≡_, sym, ap, _∙_}
-use Prim.Native.Nat.{_+_, _-_, _*_, _<_}
+use Prim.Native.Nat.{_*_, _<_}
 use native.Mathlib.Nat.{add-zero, sub-zero}
 use native.Mathlib.Omega.{arith}
 use Rattle.refusal.specs.Check.{refused, firstFrom, checkOf}

@@ -1,5 +1,5 @@
 -- `index::pages::check_pages`: before page p none spoke.
-use mathlib.Core.Path.{_≡_, refl, sym, _∙_}
+use mathlib.Core.Path.{_≡_, sym, _∙_}
 use Prim.Native.Nat.{_-_, _≤_}
 use native.Mathlib.Nat.{sub-zero}
 use borrow.Author.Needs.{needs}

@@ -1,5 +1,5 @@
 -- `index::pages::first_above`: the first key of the file, or two keys across a page end.
-use mathlib.Core.Path.{_≡_, ap, _∙_}
+use mathlib.Core.Path.{ap, _∙_}
 use Prim.Native.Nat.{_-_}
 use native.Mathlib.Omega.{arith}
 use Rattle.field.specs.Part.{partAt}

@@ -1,10 +1,10 @@
 -- `index::pages::last_key_right`: the stored key against that of the last entry.
-use mathlib.Core.Path.{_≡_, ap, ap₂, _∙_}
+use mathlib.Core.Path.{ap, _∙_}
 use Prim.Native.Nat.{_-_}
 use native.Mathlib.Omega.{arith}
 use Rattle.refusal.specs.Number.{last-key}
 use Rattle.field.specs.Part.{partAt}
-use Rattle.index.specs.Layout.{onPage, entryAt}
+use Rattle.index.specs.Layout.{entryAt}
 use Rattle.index.specs.Check.{lastKeyCheck}
 use Rattle.index.proofs.Laws.{hash-told, on-page-most}
 use borrow.Author.Needs.{needs}

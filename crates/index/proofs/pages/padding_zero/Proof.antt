@@ -1,5 +1,4 @@
 -- `index::pages::padding_zero`: the bytes after the entries.
-use mathlib.Core.Path.{_≡_}
 use Prim.Native.Nat.{_*_, _≤_}
 use native.Mathlib.Omega.{arith}
 use Rattle.index.specs.Check.{paddingCheck}

@@ -1,12 +1,11 @@
 -- `md5::Md5::update`: one more part, or refusal 50 and the state as it was.
-use mathlib.Core.Path.{_≡_, refl, sym, ap, _∙_}
+use mathlib.Core.Path.{_≡_, refl, _∙_}
 use mathlib.Core.Bool.{true, false}
 use Prim.Native.Nat.{_+_, _^_}
 use native.Mathlib.Omega.{arith}
 use borrow.Author.Tests.{ltb-false}
 use lib.ListN.{length}
 use Rattle.refusal.specs.Check.{refusedIf, checkOf}
-use Rattle.refusal.specs.Number.{hash-limit}
 use Rattle.md5.specs.Message.{tooLong}
 use borrow.Author.Needs.{needs}
 use Rattle.md5.proofs.Md5.update.Statement.{statement}

@@ -1,6 +1,4 @@
 -- `index::layout::Layout::on_page`: the rest of the entries, at most a full page.
-use mathlib.Core.Path.{_≡_}
-use Prim.Native.Nat.{_*_, _-_, _≤_, min}
 use native.Mathlib.Omega.{arith}
 use Rattle.index.proofs.Laws.{bound}
 use Rattle.index.specs.Layout.{full, onPage}
