@@ -46,8 +46,8 @@ pub extern "C" fn dwarnizza_index_list(
 {
     match entries::list(index, output) {
         Listed::Refused(r) => refused(r, answer),
-        Listed::Written(n) => {
-            *answer = [n as u64, 0, 0, 0, 0, 0, 0, 0];
+        Listed::Written(bytes) => {
+            *answer = [bytes as u64, 0, 0, 0, 0, 0, 0, 0];
             0
         }
     }

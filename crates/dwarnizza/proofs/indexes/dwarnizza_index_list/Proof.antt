@@ -15,8 +15,8 @@ enum-known-r c = search needs
 refused-requires : tie.Need-refused-requires
 refused-requires c κs = search needs
 
-enum-known-n : tie.Need-enum-known-n
-enum-known-n c = search needs
+enum-known-bytes : tie.Need-enum-known-bytes
+enum-known-bytes c = search needs
 
 same-length : tie.Need-same-length
 same-length c = search needs
@@ -33,7 +33,7 @@ same-length-2 c = search needs
 returns-2 : tie.Need-returns-2
 unfolding outcome result wordsOf
 returns-2 c =
-    let e = sym (ap outcome (c .before .before .n .given .1)) ∙ c .before .before .before .before .before .before .list .ensures .0 in
+    let e = sym (ap outcome (c .before .before .bytes .given .1)) ∙ c .before .before .before .before .before .before .list .ensures .0 in
     (ap result e, (c .before .before .before .before .before .before .list .ensures .1, ap wordsOf e))
 
 pub dwarnizza-index-list-spec : {M : Type 1} → statement M
@@ -43,7 +43,7 @@ dwarnizza-index-list-spec =
     list-requires
     enum-known-r
     refused-requires
-    enum-known-n
+    enum-known-bytes
     same-length
     returns
     same-length-2
