@@ -25,7 +25,7 @@ unfoldable pub pagesFrom : List ℕ → Layout → List ℕ → (p n : ℕ) → 
 pagesFrom s l sought p zero = absent
 pagesFrom s l sought p (suc n) = entriesFrom s l sought p 0 (onPage l p) (pagesFrom s l sought (suc p) n)
 
--- The plain reading is fed the index and a key: the pages from 0, in each the entries from slot 0.
+-- The plain reading for a sought key: the pages from 0, in each the entries from slot 0.
 unfoldable pub plainReading : List ℕ → List ℕ → Plain
 plainReading s sought = pagesFrom s (layoutOf s) sought 0 (layoutOf s .pages)
 

@@ -11,7 +11,7 @@ use dwarnizza::index::{Settings, Summary};
 use dwarnizza::{Refusal, refusal};
 use forge::{
     COUNT, FOOTER_HASH, Fault, HASH_LENGTH, IndexFile, VERSION, all_settings, counted_list, flip,
-    keys, random_list, settings, spoil,
+    keys, neighbour_lists, random_list, settings, spoil,
 };
 use random::Random;
 use second::index::{FOOTER, MOST_ENTRIES, PAGE};
@@ -445,23 +445,13 @@ fn each_byte_counts() {
 fn keys_are_compared_whole_and_unsigned() {
     for settings in all_settings() {
         let full = settings.entries_per_page();
-        for place in 0..settings.key_len() {
-            for (low, high) in [(0, 1), (0x7f, 0x80), (0x7f, 0xff), (0xfe, 0xff), (1, 0x80)] {
-                // What follows the byte is against its order.
-                let mut list = vec![0; 2 * settings.entry_len()];
-                let (one, other) = list.split_at_mut(settings.entry_len());
-                one.fill(0xff);
-                one[..place].fill(0x55);
-                other[..place].fill(0x55);
-                one[place] = low;
-                other[place] = high;
-                expect_good(&IndexFile::new(settings, &list));
+        for mut list in neighbour_lists(settings) {
+            expect_good(&IndexFile::new(settings, &list));
 
-                let (one, other) = list.split_at_mut(settings.entry_len());
-                one.swap_with_slice(other);
-                let falling = IndexFile::new(settings, &list);
-                expect_refused(&falling.bytes, refusal::INDEX_ORDER, 1);
-            }
+            let (one, other) = list.split_at_mut(settings.entry_len());
+            one.swap_with_slice(other);
+            let falling = IndexFile::new(settings, &list);
+            expect_refused(&falling.bytes, refusal::INDEX_ORDER, 1);
         }
         // Equal keys with other sizes and locations, on one page and across two.
         for equal in [1, full - 1, full] {

@@ -12,7 +12,7 @@ use dwarnizza::index::{Entry, Lookup, Page, Slot, bound, lookup};
 use dwarnizza::{Refusal, refusal};
 use forge::{
     COUNT, FOOTER_HASH, Fault, HASH_LENGTH, IndexFile, VERSION, all_settings, counted_list, flip,
-    keys, random_list, settings, spoil,
+    keys, neighbour_lists, random_list, settings, spoil,
 };
 use random::Random;
 use second::index::{FOOTER, Found, Index, MOST_ENTRIES, Settings};
@@ -225,24 +225,14 @@ fn the_zero_key_is_a_key() {
 #[test]
 fn keys_are_compared_whole_and_unsigned() {
     for settings in all_settings() {
-        for place in 0..settings.key_len() {
-            for (low, high) in [(0, 1), (0x7f, 0x80), (0x7f, 0xff), (0xfe, 0xff), (1, 0x80)] {
-                // What follows the byte is against its order.
-                let mut list = vec![0; 2 * settings.entry_len()];
-                let (one, other) = list.split_at_mut(settings.entry_len());
-                one.fill(0xff);
-                one[..place].fill(0x55);
-                other[..place].fill(0x55);
-                one[place] = low;
-                other[place] = high;
-                let file = IndexFile::new(settings, &list).bytes;
-                for (slot, entry) in (0..).zip(list.chunks(settings.entry_len())) {
-                    let key = &entry[..settings.key_len()];
-                    let entry = compare_checked(&file, key).found();
-                    assert_eq!(entry.map(|entry| entry.slot), Some(Slot(slot)));
-                    compare_checked(&file, &beside(key, 1));
-                    compare_checked(&file, &beside(key, -1));
-                }
+        for list in neighbour_lists(settings) {
+            let file = IndexFile::new(settings, &list).bytes;
+            for (slot, entry) in (0..).zip(list.chunks(settings.entry_len())) {
+                let key = &entry[..settings.key_len()];
+                let entry = compare_checked(&file, key).found();
+                assert_eq!(entry.map(|entry| entry.slot), Some(Slot(slot)));
+                compare_checked(&file, &beside(key, 1));
+                compare_checked(&file, &beside(key, -1));
             }
         }
     }

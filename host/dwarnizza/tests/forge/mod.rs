@@ -238,6 +238,24 @@ pub fn counted_list(settings: Settings, entries: usize) -> Vec<u8> {
     list
 }
 
+/// Lists of two entries whose keys differ first at one place, for each place of a key and some pairs of bytes there that rise
+/// as unsigned bytes. What follows that byte is against its order.
+pub fn neighbour_lists(settings: Settings) -> impl Iterator<Item = Vec<u8>> {
+    let pairs = [(0, 1), (0x7f, 0x80), (0x7f, 0xff), (0xfe, 0xff), (1, 0x80)];
+    (0..settings.key_len()).flat_map(move |place| {
+        pairs.into_iter().map(move |(low, high)| {
+            let mut list = vec![0; 2 * settings.entry_len()];
+            let (one, other) = list.split_at_mut(settings.entry_len());
+            one.fill(0xff);
+            one[..place].fill(0x55);
+            other[..place].fill(0x55);
+            one[place] = low;
+            other[place] = high;
+            list
+        })
+    })
+}
+
 /// A list of random entries whose keys rise: there must be so many keys.
 pub fn random_list(random: &mut Random, settings: Settings, entries: usize) -> Vec<u8> {
     let mut list = Vec::with_capacity(entries * settings.entry_len());
