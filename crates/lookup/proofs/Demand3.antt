@@ -1,19 +1,23 @@
 -- Demand 3: the lookup agrees with the plain reading, and compares few keys.
 --
--- It is stated over the definitions. By their contracts `index::check` answers what `fullCheck` says, and `lookup::lookup`
--- what `lookupOf` says, on every input: so it holds of these functions themselves, of every index that `index::check` passes
--- and every key of its length. `lookup::bound` answers the bound.
-use mathlib.Core.Path.{_≡_, _∙_}
+-- `demand3` states it over the definitions, and `demand3-answers` of what the functions `index::check` and `lookup::lookup`
+-- answer: its premises are their contracts. `lookup::bound` answers the bound.
+use mathlib.Core.Path.{_≡_, ap, _∙_}
 use mathlib.Core.List.{List}
 use Prim.Native.Nat.{ℕ, _≤_}
 use lib.ListN.{length}
 use Rattle.refusal.specs.Check.{silent}
 use Rattle.refusal.proofs.Laws.{first-left, first-right}
+use Rattle.index.specs.declared.layout.Layout.{Layout}
+use Rattle.index.specs.declared.Checked.{Checked}
+use Rattle.index.specs.declared.Checked.the-variants.{Passed}
 use Rattle.index.specs.Layout.{full, layoutOf}
-use Rattle.index.specs.Check.{opening, fullCheck}
-use Rattle.index.proofs.Laws.{on-page-full}
+use Rattle.index.specs.Check as check
+use Rattle.index.specs.Check.{opening, fullCheck, checkOutcome}
+use Rattle.index.proofs.Laws.{on-page-full, passed-index}
 use Rattle.index.proofs.Opened.{opened, on-page-some}
-use Rattle.lookup.specs.Lookup.{storedIn, ended, lookupOf, mostOf}
+use Rattle.lookup.specs.declared.Answer.{Answer}
+use Rattle.lookup.specs.Lookup.{storedIn, ended, lookupOf, mostOf, outcome}
 use Rattle.lookup.specs.Plain.{plainReading, withCount}
 use Rattle.lookup.proofs.Laws.{opened-lookup}
 use Rattle.lookup.proofs.Agreement.{settled, ended-count}
@@ -42,3 +46,12 @@ demand3 s sought passed size =
       answer = opened-lookup s sought begun size ∙ reads s sought (ended k) end;
       bound = ended-count k (full l) (on-page-full l);
     }
+
+-- The same of the functions: where `index::check` answers v, which passes, and `lookup::lookup` answers r.
+pub demand3-answers : (s sought : List ℕ) (l : Layout) (v : Checked) (r : Answer)
+    → check.outcome v ≡ checkOutcome s → v ≡ Passed l → length sought ≡ l .key → outcome r ≡ lookupOf s sought
+    → (outcome r ≡ withCount (plainReading s sought) (comparisons s sought)) × (comparisons s sought ≤ mostOf (layoutOf s))
+demand3-answers s sought l v r checked passed size looked =
+    let known = passed-index (fullCheck s) l (layoutOf s) v checked passed in
+    let agrees = demand3 s sought (known .0) (size ∙ ap (λ m. m .key) (known .1)) in
+    (looked ∙ agrees .answer, agrees .bound)
