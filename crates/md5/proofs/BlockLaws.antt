@@ -11,7 +11,7 @@ use borrow.Author.Tests.{ltb-true}
 use lib.ListN.{length, getD, take, drop, set}
 use lib.Seq.{drop-drop, take-suc-set, take-all}
 use Rattle.md5.specs.declared.block.Words.{Words}
-use Rattle.md5.specs.Block.{shifts, step, steps, word, wordsOf, add, sum, block}
+use Rattle.md5.specs.Block.{shifts, step, steps, word, wordsOf, sum, block}
 
 -- a round that is none of the first three is the fourth
 pub past-two : (r : ℕ) → (r ≡ 0 → ⊥) → (r ≡ 1 → ⊥) → (r ≡ 2 → ⊥) → (n : ℕ) × (r ≡ suc (suc (suc n)))
@@ -97,11 +97,10 @@ shift-range k h =
     (ltb-true _ _ (at-place (λ y. ltb 0 y) shifts refl k h), ltb-true _ _ (at-place (λ y. ltb y 32) shifts refl k h))
 
 -- one block: its words, four rounds, and the sum with the words before it
-pub block-is : (t s x : List ℕ) (w : Words) {e1 e2 e3 e4 : Words} {a b c d : ℕ} → x ≡ wordsOf 16 s
+pub block-is : (t s x : List ℕ) (w : Words) {e1 e2 e3 e4 r : Words} → x ≡ wordsOf 16 s
     → e1 ≡ steps t x 0 16 w → e2 ≡ steps t x 16 16 e1 → e3 ≡ steps t x 32 16 e2 → e4 ≡ steps t x 48 16 e3
-    → a ≡ add (w .a) (e4 .a) → b ≡ add (w .b) (e4 .b) → c ≡ add (w .c) (e4 .c) → d ≡ add (w .d) (e4 .d)
-    → _≡_ {A = Words} (record { a = a; b = b; c = c; d = d }) (block t s w)
-unfolding block sum
-block-is t s x w {e4 = e4} p q1 q2 q3 q4 ha hb hc hd =
+    → r ≡ sum w e4 → r ≡ block t s w
+unfolding block
+block-is t s x w {e4 = e4} p q1 q2 q3 q4 q =
     let e : e4 ≡ steps t x 0 64 w = more t x 0 48 16 w (more t x 0 32 16 w (more t x 0 16 16 w q1 q2) q3) q4 in
-    rw (ha, hb, hc, hd, ← p) (ap (sum w) e)
+    q ∙ ap (sum w) e ∙ ap (λ y. sum w (steps t y 0 64 w)) p

@@ -3,3 +3,4 @@ pub mod BlockLaws
 pub mod MessageLaws
 pub mod Cutting
 pub mod Choice
+pub mod TwoLaws

@@ -109,6 +109,10 @@ zeros-split n z r e =
     (ap (λ k. replicate k 0) (one-add (z + (8 + r)))
     ∙ ap (λ (l : List ℕ). 0 ∷ l) (sym (replicate-append-replicate z (8 + r) 0) ∙ ap (λ (l : List ℕ). replicate z 0 ++ l) (sym (replicate-append-replicate 8 r 0))))
 
+-- bytes laid over as many zeros at the start
+laid-first : (all p t rest : List ℕ) → t ≡ overlay all 0 p → all ≡ replicate (length p) 0 ++ rest → t ≡ p ++ rest
+laid-first all p t rest e s = e ∙ ap (λ x. overlay x 0 p) s ∙ overlay-at [] (replicate (length p) 0) rest p (length-replicate (length p) 0)
+
 -- a message's last bytes, one set bit, zeros and the number of bits, laid one after the other over zeros
 pub tail-is : (p l t1 t2 t3 : List ℕ) (size : ℕ) → length p + 9 ≤ size → size ≤ 128 → length l ≡ 8
     → t1 ≡ overlay (replicate 128 0) 0 p → t2 ≡ set t1 (length p) 128 → t3 ≡ overlay t2 (size - 8) l
@@ -123,7 +127,7 @@ tail-is p l t1 t2 t3 size h k n p1 p2 p3 =
     let place : size - 8 ≡ length q = simp (length-append, length-replicate) (omega arith) in
     let ends : length (q ++ l) ≡ size = simp (length-append, length-replicate) (omega arith) in
     let first : t1 ≡ p ++ (0 ∷ (zs ++ (e ++ f))) =
-    p1 ∙ ap (λ x. overlay x 0 p) (zeros-split (length p) z (128 - size) sum) ∙ overlay-at [] (replicate (length p) 0) (0 ∷ (zs ++ (e ++ f))) p (length-replicate (length p) 0) in
+    laid-first (replicate 128 0) p t1 (0 ∷ (zs ++ (e ++ f))) p1 (zeros-split (length p) z (128 - size) sum) in
     let second : t2 ≡ q ++ (e ++ f) =
     p2 ∙ ap (λ x. set x (length p) 128) first ∙ set-append-seam p 0 (zs ++ (e ++ f)) 128 ∙ sym (append-assoc p (128 ∷ zs) (e ++ f)) in
     let third : t3 ≡ q ++ (l ++ f) = p3 ∙ ap₂ (λ x i. overlay x i l) second place ∙ overlay-at q e f l (sym n) in

@@ -126,7 +126,7 @@ fn rotate(x: u32, s: u32) -> u32
 }
 
 // Step i. The table of addends is lent: folded into the code as constants they would lengthen the chain of additions.
-fn step(i: usize, w: Words, x: &[u32; 16], k: &[u32; 64]) -> Words
+pub(crate) fn step(i: usize, w: Words, x: &[u32; 16], k: &[u32; 64]) -> Words
     requires { ⌜ i < 64 ⌝ }
     ensures { λ r. ⌜ r ≡ spec.step (now (k .entry)) (now (x .entry)) i w ⌝ }
 {
@@ -243,7 +243,7 @@ fn word(s: &[u8], at: usize) -> u32
     wide(s, at) + wide(s, at + 1) * 256 + wide(s, at + 2) * 65536 + wide(s, at + 3) * 16777216
 }
 
-fn block_words(s: &[u8], at: usize) -> [u32; 16]
+pub(crate) fn block_words(s: &[u8], at: usize) -> [u32; 16]
     requires { ⌜ at + 64 ≤ length (now s) ⌝ }
     ensures { λ r. ⌜ r ≡ spec.wordsOf 16 (drop at (now (s .entry))) ⌝ }
 {
@@ -256,6 +256,18 @@ fn block_words(s: &[u8], at: usize) -> [u32; 16]
     x
 }
 
+// The sum of two states of the words.
+pub(crate) fn sum(v: Words, w: Words) -> Words
+    ensures { λ r. ⌜ r ≡ spec.sum v w ⌝ }
+{
+    Words {
+        a: wrapping_add_u32(v.a, w.a),
+        b: wrapping_add_u32(v.b, w.b),
+        c: wrapping_add_u32(v.c, w.c),
+        d: wrapping_add_u32(v.d, w.d),
+    }
+}
+
 // The words after the block that stands at a place.
 pub(crate) fn block(w: Words, s: &[u8], at: usize, k: &[u32; 64]) -> Words
     requires { ⌜ at + 64 ≤ length (now s) ⌝ }
@@ -266,10 +278,5 @@ pub(crate) fn block(w: Words, s: &[u8], at: usize, k: &[u32; 64]) -> Words
     let e = second_round(e, &x, k);
     let e = third_round(e, &x, k);
     let e = fourth_round(e, &x, k);
-    Words {
-        a: wrapping_add_u32(w.a, e.a),
-        b: wrapping_add_u32(w.b, e.b),
-        c: wrapping_add_u32(w.c, e.c),
-        d: wrapping_add_u32(w.d, e.d),
-    }
+    sum(w, e)
 }

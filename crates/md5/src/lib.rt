@@ -10,12 +10,16 @@ ghost use Prim.Native.Nat.{_+_, _-_, _*_, _%_, _^_, _≤_, _<_};
 ghost use lib.ListN.{length, take, replicate};
 ghost use Rattle.refusal.specs.Check.{checkOf};
 ghost use Rattle.md5.specs.Message as spec;
+ghost use Rattle.md5.specs.Two as two;
 
 mod block;
+mod two;
 
 use block::ADDENDS;
 pub use block::Words;
 use block::block;
+use two::Two;
+use two::block_two;
 
 // The most bytes that are hashed in all: 2^48.
 pub const LIMIT: u64 = 281_474_976_710_656;
@@ -74,6 +78,21 @@ fn blocks(w: Words, s: &[u8]) -> Words
     let mut at = 0;
     while 64 <= s.len() - at {
         e = block(e, s, at, &k);
+        at += 64;
+    }
+    e
+}
+
+// The same for two messages of one length.
+fn blocks_two(w: Two, s: &[u8], t: &[u8]) -> Two
+    requires { ⌜ length (now s) ≡ length (now t) ⌝ }
+    ensures { λ r. ⌜ r ≡ two.wholeTwo (now (s .entry)) (now (t .entry)) w ⌝ }
+{
+    let k = ADDENDS;
+    let mut e = w;
+    let mut at = 0;
+    while 64 <= s.len() - at {
+        e = block_two(e, s, t, at, &k);
         at += 64;
     }
     e
@@ -249,5 +268,56 @@ pub fn first_eight(message: &[u8]) -> FirstEight
     FirstEight {
         verdict,
         bytes: [b[0], b[1], b[2], b[3], b[4], b[5], b[6], b[7]],
+    }
+}
+
+// The first eight bytes of the digest that the words are.
+fn eight(w: Words) -> [u8; 8]
+    ensures { λ r. ⌜ r ≡ take 8 (spec.digestOf w) ⌝ }
+{
+    let b = bytes(w);
+    [b[0], b[1], b[2], b[3], b[4], b[5], b[6], b[7]]
+}
+
+// The first eight bytes of two digests.
+pub struct TwoFirstEights {
+    pub first: [u8; 8],
+    pub second: [u8; 8],
+}
+
+fn one_by_one(a: &[u8], b: &[u8]) -> TwoFirstEights
+    ensures { λ r. ⌜ (r .first ≡ take 8 (spec.digestOr0 (now (a .entry)))) × (r .second ≡ take 8 (spec.digestOr0 (now (b .entry)))) ⌝ }
+{
+    let x = first_eight(a);
+    let y = first_eight(b);
+    let first = x.bytes;
+    let second = y.bytes;
+    TwoFirstEights { first, second }
+}
+
+// The first eight bytes of the digests of two messages. Of one length, they are hashed together, which is quicker than one
+// after the other.
+pub fn first_eight_of_two(a: &[u8], b: &[u8]) -> TwoFirstEights
+    ensures first { λ r. ⌜ r .first ≡ take 8 (spec.digestOr0 (now (a .entry))) ⌝ }
+    ensures second { λ r. ⌜ r .second ≡ take 8 (spec.digestOr0 (now (b .entry))) ⌝ }
+{
+    let n = a.len() as u64;
+    if a.len() != b.len() {
+        return one_by_one(a, b);
+    }
+    if !within(0, n) {
+        return one_by_one(a, b);
+    }
+    let start = Two {
+        first: initial(),
+        second: initial(),
+    };
+    let w = blocks_two(start, a, b);
+    let whole = a.len() / 64 * 64;
+    let v = w.first;
+    let u = w.second;
+    TwoFirstEights {
+        first: eight(last(v, &a[whole..], n)),
+        second: eight(last(u, &b[whole..], n)),
     }
 }

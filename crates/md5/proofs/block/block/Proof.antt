@@ -20,25 +20,14 @@ third-round-requires c κs = search needs
 fourth-round-requires : tie.Need-fourth-round-requires
 fourth-round-requires c κs = search needs
 
-wrapping-add-u32-requires : tie.Need-wrapping-add-u32-requires
-wrapping-add-u32-requires c κs = search needs
-
-wrapping-add-u32-requires-2 : tie.Need-wrapping-add-u32-requires-2
-wrapping-add-u32-requires-2 c κs = search needs
-
-wrapping-add-u32-requires-3 : tie.Need-wrapping-add-u32-requires-3
-wrapping-add-u32-requires-3 c κs = search needs
-
-wrapping-add-u32-requires-4 : tie.Need-wrapping-add-u32-requires-4
-wrapping-add-u32-requires-4 c κs = search needs
+sum-requires : tie.Need-sum-requires
+sum-requires c κs = search needs
 
 returns : tie.Need-returns
 returns c =
-    let a = c .before .before .before .before .before .before .before .before .before .before .before .before .before .before .args in
-    block-is (a .k .now) (drop (a .at) (a .s .now)) _ (a .w)
-    (c .before .before .before .before .before .before .before .before .before .before .before .before .block-words .ensures)
-    (c .before .before .before .before .before .before .before .before .before .before .first-round .ensures) (c .before .before .before .before .before .before .before .before .second-round .ensures) (c .before .before .before .before .before .before .third-round .ensures) (c .before .before .before .before .fourth-round .ensures)
-    (c .before .before .before .wrapping-add-u32 .ensures) (c .before .before .wrapping-add-u322 .ensures) (c .before .wrapping-add-u323 .ensures) (c .wrapping-add-u324 .ensures)
+    let a = c .before .before .before .before .before .before .before .before .before .before .before .args in
+    block-is (a .k .now) (drop (a .at) (a .s .now)) _ (a .w) (c .before .before .before .before .before .before .before .before .before .block-words .ensures)
+    (c .before .before .before .before .before .before .before .first-round .ensures) (c .before .before .before .before .before .second-round .ensures) (c .before .before .before .third-round .ensures) (c .before .fourth-round .ensures) (c .sum .ensures)
 
 pub block-spec : {M : Type 1} → statement M
 block-spec =
@@ -49,8 +38,5 @@ block-spec =
     second-round-requires
     third-round-requires
     fourth-round-requires
-    wrapping-add-u32-requires
-    wrapping-add-u32-requires-2
-    wrapping-add-u32-requires-3
-    wrapping-add-u32-requires-4
+    sum-requires
     returns)
