@@ -22,8 +22,8 @@ pub enum Listed {
 
 // Copies the entries of each page, one page after the other.
 fn fill(index: &[u8], l: Layout, output: &mut [u8])
-    requires { ⌜ length (entries.listFrom (now index) l 0 (l .pages)) ≤ length (now output) ⌝ }
-    ensures { λ _. ⌜ now (output .exit) ≡ filled silent (entries.listFrom (now (index .entry)) l 0 (l .pages)) (now (output .entry)) ⌝ }
+    requires { ⌜ length (entries.entriesBy (now index) l) ≤ length (now output) ⌝ }
+    ensures { λ _. ⌜ now (output .exit) ≡ filled silent (entries.entriesBy (now (index .entry)) l) (now (output .entry)) ⌝ }
 {
     let size = l.entry_size();
     let pages = l.pages;

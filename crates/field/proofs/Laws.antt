@@ -8,7 +8,7 @@ use native.Mathlib.Omega.{arith}
 use lib.Arith.{digits-lt}
 use lib.Dec.{eqb, lit<}
 use lib.ListN.{length, take, drop, replicate, length-append, length-take, length-drop, length-replicate, getD-replicate}
-use lib.Seq.{take-append-seam, drop-append-add, drop-drop, take-nil, drop-nil, take-length, take-all, getD-take, getD-drop, ext-getD, paste}
+use lib.Seq.{take-append-seam, drop-append-add, drop-drop, take-nil, drop-nil, take-length, take-all, take-take, getD-take, getD-drop, ext-getD, paste}
 use mir.Syntax.{w64}
 use mir.Val.{Fits}
 use borrow.Author.Tests.{eq-eqb, eqb-true}
@@ -87,6 +87,16 @@ part-to-end at s = take-all (length s - at) (drop at s) (le-of-eq (length-drop a
 
 pub partAt-byte : (s : List ℕ) (at count i : ℕ) → i < count → byteAt (partAt s at count) i ≡ byteAt s (at + i)
 partAt-byte s at count i h = getD-take count (drop at s) i 0 h ∙ getD-drop at s i 0
+
+-- A part of a part is a part of the whole.
+take-drop-take : (at count n : ℕ) (l : List ℕ) → at + count ≤ n → take count (drop at (take n l)) ≡ take count (drop at l)
+take-drop-take zero count n l h = take-take count n l (omega arith)
+take-drop-take (suc at) count zero l h = absurd (omega arith)
+take-drop-take (suc at) count (suc n) [] h = refl
+take-drop-take (suc at) count (suc n) (x ∷ l) h = take-drop-take at count n l (omega arith)
+
+pub part-of-part : (s : List ℕ) (a n at count : ℕ) → at + count ≤ n → partAt (partAt s a n) at count ≡ partAt s (a + at) count
+part-of-part s a n at count h = take-drop-take at count n (drop a s) h ∙ ap (take count) (drop-drop at a s)
 
 -- What is taken or dropped past the end is not there.
 take-clipped : (n : ℕ) (l : List ℕ) → take (min n (length l)) l ≡ take n l
@@ -188,6 +198,32 @@ pub overlay-inside : (to : List ℕ) (at : ℕ) (from : List ℕ) → at + lengt
 overlay-inside to at from h =
     let all : min (length from) (length to - at) ≡ length from = omega arith in
     rw (overlay-paste to at from, all, take-length from)
+
+-- Bytes laid over others one part after the other.
+pub overlay-none : (to : List ℕ) (at : ℕ) → overlay to at [] ≡ to
+unfolding overlay
+overlay-none [] at = refl
+overlay-none (x ∷ to) zero = refl
+overlay-none (x ∷ to) (suc at) = ap (λ (r : List ℕ). x ∷ r) (overlay-none to at)
+
+pub overlay-after : (to : List ℕ) (at : ℕ) (a b : List ℕ) → overlay (overlay to at a) (at + length a) b ≡ overlay to at (a ++ b)
+unfolding overlay
+overlay-after [] at a b = refl
+overlay-after (x ∷ to) (suc at) a b = rw (suc-add at (length a)) (ap (λ (r : List ℕ). x ∷ r) (overlay-after to at a b))
+overlay-after (x ∷ to) zero [] b = refl
+overlay-after (x ∷ to) zero (y ∷ a) b =
+    rw (zero-add (suc (length a))) (ap (λ (r : List ℕ). y ∷ r) (ap (λ n. overlay (overlay to zero a) n b) (sym (zero-add (length a))) ∙ overlay-after to zero a b))
+
+-- What stands before the bytes that are laid over stays.
+overlay-front : (to : List ℕ) (at : ℕ) (from : List ℕ) → take at (overlay to at from) ≡ take at to
+unfolding overlay
+overlay-front [] at from = refl
+overlay-front (x ∷ to) zero from = refl
+overlay-front (x ∷ to) (suc at) from = ap (λ (r : List ℕ). x ∷ r) (overlay-front to at from)
+
+pub overlay-before : (to : List ℕ) (at : ℕ) (from : List ℕ) (a n : ℕ) → a + n ≤ at → partAt (overlay to at from) a n ≡ partAt to a n
+overlay-before to at from a n h =
+    sym (take-drop-take a n at (overlay to at from) h) ∙ ap (λ l. take n (drop a l)) (overlay-front to at from) ∙ take-drop-take a n at to h
 
 -- Zeros with bytes laid over them read as those bytes.
 pub overlay-zeros : (n : ℕ) (from : List ℕ) (i : ℕ) → i < n → byteAt (overlay (replicate n 0) 0 from) i ≡ byteAt from i

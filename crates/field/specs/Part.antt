@@ -1,6 +1,6 @@
 -- Parts of a list of bytes, and what is asked of them.
 use mathlib.Core.Bool.{Bool, true, false, _&&_}
-use mathlib.Core.List.{List, [], _∷_}
+use mathlib.Core.List.{List, [], _∷_, _++_}
 use Prim.Native.Nat.{ℕ, zero, suc}
 use lib.Dec.{eqb}
 use lib.ListN.{take, drop}
@@ -27,3 +27,8 @@ overlay [] at from = []
 overlay (x ∷ to) (suc at) from = x ∷ overlay to at from
 overlay (x ∷ to) zero [] = x ∷ to
 overlay (x ∷ to) zero (y ∷ from) = y ∷ overlay to zero from
+
+-- The n numbered parts from number i on, one after the other.
+unfoldable pub partsFrom : (ℕ → List ℕ) → ℕ → ℕ → List ℕ
+partsFrom part i zero = []
+partsFrom part i (suc n) = part i ++ partsFrom part (suc i) n

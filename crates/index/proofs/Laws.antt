@@ -1,20 +1,19 @@
 -- Laws of the layout and of the checks.
 use mathlib.Core.Path.{_≡_, refl, sym, ap, ap₂, _∙_}
 use mathlib.Core.Bool.{Bool, true, false, not, cond}
-use mathlib.Core.List.{List, [], _∷_, _++_}
+use mathlib.Core.List.{List, _++_}
 use Prim.Native.Nat.{ℕ, zero, suc, _+_, _-_, _*_, _/_, _^_, _≤_, _<_}
-use native.Mathlib.Nat.{le-trans, mul-le-mul, mul-le-mul-left, mul-le-mul-right, div-mul-le-self, le-div-iff-mul-le, min-le-left, add-zero, zero-add, add-assoc, suc-mul, not-suc-le-zero}
+use native.Mathlib.Nat.{le-trans, mul-le-mul, mul-le-mul-left, mul-le-mul-right, div-mul-le-self, div-add-mod', le-div-iff-mul-le, min-le-left, add-zero, add-mul, mul-one, one-mul, suc-mul}
+use native.Mathlib.Decide.{decLt}
 use native.Mathlib.Omega.{arith}
-use lib.Dec.{ltb, eqb, lit<, lit≤}
-use lib.Seq.{getD-drop}
+use lib.Dec.{ltb, eqb, lit≤}
 use lib.ListN.{length, take, drop, replicate}
 use Rattle.key.specs.Order.{compared, isBelow}
 use Rattle.md5.specs.Message.{md5, digestOr0}
 use Rattle.field.specs.Part.{partAt, sameBytes, overlay}
-use Rattle.field.specs.Number.{byteAt, bigAt}
-use Rattle.field.proofs.Laws.{bigAt-agree, partAt-inside, partAt-byte, overlay-inside}
-use Rattle.key.specs.declared.Order.the-variants.{Below}
-use Rattle.key.proofs.Laws.{below-of-bigAt}
+use Rattle.field.proofs.Laws.{partAt-inside, part-of-part, overlay-inside}
+use Rattle.rising.specs.Fall.{risesAt, fallFrom}
+use Rattle.rising.proofs.Laws.{fall-check, fall-low}
 use Rattle.refusal.specs.declared.Refusal.{Refusal}
 use Rattle.refusal.specs.Check.{Check, silent, refused, refusedIf, first, firstFrom}
 use Rattle.refusal.specs.Outcome.{answered, after}
@@ -25,7 +24,7 @@ use Rattle.index.specs.declared.Checked.{Checked}
 use Rattle.index.specs.declared.Checked.the-variants.{Passed, Refused}
 use Rattle.index.specs.Layout.{entryCount, entrySize, full, onPage, entryAt, keyAt}
 use Rattle.index.specs.Check.{fieldsCheck, hashedFooter, footerHashCheck, countCheck, footerCheck, keyBefore, notAbove, orderCheck, pageCheck, told, outcome}
-use borrow.Author.Tests.{le-ltb, ltb-false, ne-eqb}
+use borrow.Author.Tests.{lt-ltb, le-ltb, ltb-false, ne-eqb}
 
 -- a product is at most that of the two bounds
 pub bound : (a b m n : ℕ) → a ≤ m → b ≤ n → a * b ≤ m * n
@@ -36,6 +35,14 @@ pub per-page : (d : ℕ) → 4 ≤ d → d ≤ 514 → (1 ≤ 4096 / d) × (4096
 per-page d low high =
     let positive : 0 < d = omega arith in
     (le-div-iff-mul-le positive .1 (omega arith), omega (arith, div-mul-le-self 4096 d, mul-le-mul-left (4096 / d) low))
+
+-- n entries take at most n pages
+pub pages-most : (n e : ℕ) → 1 ≤ e → (n + e - 1) / e ≤ n
+pages-most n e h = go (decLt n ((n + e - 1) / e))
+  where
+    go : Dec (n < (n + e - 1) / e) → (n + e - 1) / e ≤ n
+    go (yes more) = absurd (omega (arith, div-add-mod' (n + e - 1) e, mul-le-mul-right e more, add-mul n 1 e, one-mul e, mul-le-mul-left n h, mul-one n))
+    go (no most) = omega arith
 
 -- bounds of a layout
 module _ (l : Layout) where
@@ -61,12 +68,12 @@ module _ (l : Layout) where
   pub on-page-most : (p : ℕ) → onPage l p ≤ 1024
   on-page-most p = le-trans (on-page-full p) full-most
 
--- a short message is hashed, never refused
-pub digest-short : (m : List ℕ) → length m ≤ 4096 → digestOr0 m ≡ md5 m
-digest-short m h = ap (λ b. cond b (replicate 16 0) (md5 m)) (le-ltb (2 ^ 48) (length m) (omega arith))
+-- a message within the limit is hashed, never refused
+pub first-eight-within : (m bytes : List ℕ) → length m ≤ 2 ^ 48 → bytes ≡ take 8 (digestOr0 m) → bytes ≡ take 8 (md5 m)
+first-eight-within m bytes h e = e ∙ ap (λ b. take 8 (cond b (replicate 16 0) (md5 m))) (le-ltb (2 ^ 48) (length m) h)
 
 pub first-eight-is : (m bytes : List ℕ) → length m ≤ 4096 → bytes ≡ take 8 (digestOr0 m) → bytes ≡ take 8 (md5 m)
-first-eight-is m bytes h e = e ∙ ap (take 8) (digest-short m h)
+first-eight-is m bytes h = first-eight-within m bytes (omega arith)
 
 -- the 20 bytes that the footer hash is of
 pub hashed-is : (f p h : List ℕ) → length f ≡ 28 → p ≡ partAt f 8 12 → h ≡ overlay (replicate 20 0) 0 p → h ≡ hashedFooter f
@@ -112,16 +119,6 @@ pub refused-index : (k : Check) (m : Layout) (v : Checked) {r : Refusal} → out
 unfolding outcome
 refused-index k m v {r} e g = refusal-after k (r .number) (r .place) (told m) (sym (ap outcome g) ∙ e)
 
--- a part of bytes has bytes alone
-take-bytes : (n : ℕ) (s : List ℕ) → ((i : ℕ) → byteAt s i < 256) → (i : ℕ) → byteAt (take n s) i < 256
-take-bytes zero s h i = lit< tt
-take-bytes (suc n) [] h i = lit< tt
-take-bytes (suc n) (x ∷ s) h zero = h 0
-take-bytes (suc n) (x ∷ s) h (suc i) = take-bytes n s (λ j. h (suc j)) i
-
-part-bytes : (s : List ℕ) (at count : ℕ) → ((i : ℕ) → byteAt s i < 256) → (i : ℕ) → byteAt (partAt s at count) i < 256
-part-bytes s at count h = take-bytes count (drop at s) (λ i. rw (getD-drop at s i 0) (h (at + i)))
-
 -- ---- the order of a page's entries
 module _ (s : List ℕ) (l : Layout) (p : ℕ) where
   pub not-above-first : (a b : List ℕ) (r : Bool) → (p ≡ 0 → ⊥) → r ≡ isBelow (compared a b)
@@ -156,58 +153,42 @@ module _ (s : List ℕ) (l : Layout) (p : ℕ) where
       let none : n - i ≡ 0 = omega arith in
       ap (firstFrom (orderCheck s l p) i) none ∙ from-none (orderCheck s l p) i
 
--- the slot after a slot
-pub entry-next : (l : Layout) (p i at : ℕ) → 1 ≤ i → at ≡ entryAt l p (i - 1) → at + entrySize l ≡ entryAt l p i
-unfolding entryAt
-entry-next l p zero at h e = absurd (not-suc-le-zero h)
-entry-next l p (suc i) at h e =
-    let j : suc i - 1 ≡ i = omega arith in
-    rw (e, j, suc-mul i (entrySize l)) (omega arith)
-
 key-within : (l : Layout) → l .key ≤ entrySize l
 unfolding entrySize
 key-within l = omega arith
 
--- an entry stands inside its page
-pub slot-inside : (l : Layout) (p i : ℕ) → i < onPage l p → entryAt l p i + entrySize l ≤ p * 4096 + 4096
+-- the key of a slot, read from its page
+pub page-key : (s : List ℕ) (l : Layout) (p i : ℕ) → i < onPage l p → partAt (partAt s (p * 4096) 4096) (i * entrySize l) (l .key) ≡ keyAt s l p i
 unfolding entryAt
-slot-inside l p i h =
+page-key s l p i h =
     let most : suc i * entrySize l ≤ 4096 = le-trans (mul-le-mul-right (entrySize l) h) (on-page-fits l p) in
-    omega (arith, most, suc-mul i (entrySize l))
+    part-of-part s (p * 4096) 4096 (i * entrySize l) (l .key) (omega (arith, most, suc-mul i (entrySize l), key-within l))
 
--- and with it the first eight bytes of its key, where the key has as many
-pub eight-inside : (l : Layout) (p i : ℕ) → 8 ≤ l .key → i < onPage l p → entryAt l p i + 8 ≤ p * 4096 + 4096
-eight-inside l p i h k = omega (arith, slot-inside l p i k, key-within l)
+-- the order of a page's entries from the second on, by the first that falls
+module _ (s : List ℕ) (l : Layout) (p : ℕ) where
+  rest-rising : firstFrom (orderCheck s l p) 1 (onPage l p - 1)
+      ≡ refusedIf (ltb (fallFrom (partAt s (p * 4096) 4096) (entrySize l) (l .key) 1 (onPage l p - 1)) (1 + (onPage l p - 1))) index-order
+      (p * full l + fallFrom (partAt s (p * 4096) 4096) (entrySize l) (l .key) 1 (onPage l p - 1))
+  unfolding orderCheck risesAt
+  rest-rising =
+      fall-check (partAt s (p * 4096) 4096) (entrySize l) (l .key) (orderCheck s l p) index-order (λ j. p * full l + j) 1 (onPage l p - 1)
+      (λ j a b. ap (λ t. refusedIf t index-order (p * full l + j)) (not-above-next s l p j _ _ _ a refl (page-key s l p (j - 1) (omega arith)) (page-key s l p j (omega arith))))
 
--- eight bytes as two halves
-pub eight-halves : (s : List ℕ) (at : ℕ) → bigAt s at 8
-    ≡ (byteAt s at * 16777216 + byteAt s (at + 1) * 65536 + byteAt s (at + 2) * 256 + byteAt s (at + 3)) * 4294967296
-    + (byteAt s (at + 4) * 16777216 + byteAt s (at + 5) * 65536 + byteAt s (at + 6) * 256 + byteAt s (at + 7))
-unfolding bigAt
-eight-halves s at = rw (add-assoc at 1 1, add-assoc at 2 1, add-assoc at 3 1, add-assoc at 4 1, add-assoc at 5 1, add-assoc at 6 1) (omega arith)
+  module _ (page : List ℕ) (size count fall : ℕ) (e : page ≡ partAt s (p * 4096) 4096) (z : size ≡ entrySize l) (n : count ≡ onPage l p)
+      (f : fall ≡ fallFrom page size (l .key) 1 (count - 1)) where
+    fall-is : fall ≡ fallFrom (partAt s (p * 4096) 4096) (entrySize l) (l .key) 1 (onPage l p - 1)
+    fall-is = f ∙ rw (e, z, n)
 
--- eight bytes of two keys decide
-pub eight-below : (s : List ℕ) (a b key : ℕ) → 8 ≤ key → ((i : ℕ) → byteAt s i < 256) → bigAt s a 8 < bigAt s b 8
-    → compared (partAt s a key) (partAt s b key) ≡ Below
-eight-below s a b key h bytes e =
-    let first : (at : ℕ) → bigAt (partAt s at key) 0 8 ≡ bigAt s at 8 =
-    λ at. bigAt-agree (partAt s at key) s 0 at 8 (λ i k. rw (zero-add i) (partAt-byte s at key i (omega arith))) in
-    below-of-bigAt 8 (partAt s a key) (partAt s b key) (part-bytes s b key bytes) (rw (first a, first b) e)
+    rest-told : firstFrom (orderCheck s l p) 1 (onPage l p - 1) ≡ refusedIf (ltb fall (1 + (onPage l p - 1))) index-order (p * full l + fall)
+    rest-told = rest-rising ∙ ap (λ m. refusedIf (ltb m (1 + (onPage l p - 1))) index-order (p * full l + m)) (sym fall-is)
 
--- two neighbours, where the loop over a page has them
-pub neighbours : (s : List ℕ) (l : Layout) (p i at size : ℕ) (a b : List ℕ) (r : Bool) → 1 ≤ i → at ≡ entryAt l p (i - 1) → size ≡ entrySize l
-    → a ≡ partAt s at (l .key) → b ≡ partAt s (at + size) (l .key) → r ≡ isBelow (compared a b) → notAbove s l p i ≡ not r
-neighbours s l p i at size a b r h e z f g k =
-    let next : at + size ≡ entryAt l p i = ap (λ n. at + n) z ∙ entry-next l p i at h e in
-    not-above-next s l p i a b r h k (f ∙ ap (λ n. partAt s n (l .key)) e) (g ∙ ap (λ n. partAt s n (l .key)) next)
+    pub rest-said : fall < count → firstFrom (orderCheck s l p) 1 (onPage l p - 1) ≡ refused index-order (p * full l + fall)
+    rest-said h = said rest-told (lt-ltb fall (1 + (onPage l p - 1)) (omega arith))
 
--- a slot whose first eight key bytes are above those of the slot before is in order
-pub eight-quiet : (s : List ℕ) (l : Layout) (p i : ℕ) → ((j : ℕ) → byteAt s j < 256) → 8 ≤ l .key → 1 ≤ i → i < onPage l p
-    → bigAt s (entryAt l p (i - 1)) 8 < bigAt s (entryAt l p i) 8
-    → firstFrom (orderCheck s l p) i (onPage l p - i) ≡ firstFrom (orderCheck s l p) (i + 1) (onPage l p - (i + 1))
-eight-quiet s l p i bytes h k n e =
-    order-quiet s l p i (onPage l p) true n
-    (not-above-next s l p i _ _ true k (sym (ap isBelow (eight-below s (entryAt l p (i - 1)) (entryAt l p i) (l .key) h bytes e))) refl refl) refl
+    pub rest-quiet : count ≤ fall → firstFrom (orderCheck s l p) 1 (onPage l p - 1) ≡ silent
+    rest-quiet h =
+        let low = fall-low page size (l .key) 1 (count - 1) in
+        quiet index-order (p * full l + fall) rest-told (le-ltb fall (1 + (onPage l p - 1)) (omega (arith, low, f)))
 
 -- ---- all pages
 module _ (s : List ℕ) (l : Layout) where

@@ -10,6 +10,7 @@ use lib.Dec.{ltb, leb}
 use lib.ListN.{length, length-append}
 use borrow.Author.Tests.{ltb-false, leb-true, eqb-true, not-false}
 use Rattle.field.specs.Number.{byteAt}
+use Rattle.field.specs.Part.{partsFrom}
 use Rattle.field.proofs.Laws.{partAt-inside}
 use Rattle.refusal.specs.Check.{silent, first}
 use Rattle.refusal.specs.Number.{index-short, footer-field, index-length}
@@ -17,7 +18,7 @@ use Rattle.refusal.proofs.Laws.{silent-test, first-left, first-right}
 use Rattle.index.specs.declared.layout.Layout.{Layout}
 use Rattle.index.specs.Layout.{footer, entryCount, keyLength, offsetWidth, entrySize, full, pagesFor, onPage, indexLength, layoutFrom, layoutOf}
 use Rattle.index.specs.Check.{shortCheck, fieldCheck, fieldsCheck, footerHashCheck, countCheck, footerCheck, lengthCheck, opening}
-use Rattle.index.specs.Entries.{entriesOf, listFrom, listOf}
+use Rattle.index.specs.Entries.{entriesOf, entriesBy, listOf}
 use Rattle.index.proofs.Laws.{count-within, on-page-fits, per-page}
 
 pub record Opened (s : List ℕ) : Type 0 where
@@ -29,7 +30,7 @@ pub record Opened (s : List ℕ) : Type 0 where
   pub count : entryCount (footer s) ≤ 8388608
   pub long : 28 ≤ length s
 
-field-range : (f : List ℕ) (at low high : ℕ) → fieldCheck f at low high ≡ silent → (low ≤ byteAt f at) × (byteAt f at ≤ high)
+pub field-range : (f : List ℕ) (at low high : ℕ) → fieldCheck f at low high ≡ silent → (low ≤ byteAt f at) × (byteAt f at ≤ high)
 unfolding fieldCheck
 field-range f at low high e =
     let both = and-eq-true-iff (leb low (byteAt f at)) (leb (byteAt f at) high) .0
@@ -122,8 +123,8 @@ module _ (s : List ℕ) (o : Opened s) where
 
   -- the list from page p on has the entries that are left
   list-left : (p m : ℕ) → p + m ≡ layoutOf s .pages
-      → length (listFrom s (layoutOf s) p m) ≡ (layoutOf s .entries - p * full (layoutOf s)) * entrySize (layoutOf s)
-  unfolding listFrom onPage
+      → length (partsFrom (entriesOf s (layoutOf s)) p m) ≡ (layoutOf s .entries - p * full (layoutOf s)) * entrySize (layoutOf s)
+  unfolding partsFrom onPage
   list-left p zero h =
       let none : layoutOf s .entries - p * full (layoutOf s) ≡ 0 = rw (sym (add-zero p) ∙ h) (omega (arith, entries-held)) in
       rw (none, zero-mul (entrySize (layoutOf s)))
@@ -131,13 +132,13 @@ module _ (s : List ℕ) (o : Opened s) where
       let l : Layout = layoutOf s in
       let inside : p < l .pages = omega arith in
       let next : suc p + m ≡ l .pages = omega arith in
-      length-append (entriesOf s l p) (listFrom s l (suc p) m)
+      length-append (entriesOf s l p) (partsFrom (entriesOf s l) (suc p) m)
       ∙ ap₂ (λ a b. a + b) (entries-length p inside) (list-left (suc p) m next)
       ∙ sym (add-mul (onPage l p) (l .entries - suc p * full l) (entrySize l))
       ∙ ap (λ n. n * entrySize l) (page-rest (l .entries) (full l) p)
 
   pub list-length : length (listOf s) ≡ layoutOf s .entries * entrySize (layoutOf s)
-  unfolding listOf
+  unfolding entriesBy
   list-length =
       let l : Layout = layoutOf s in
       let all : l .entries - 0 * full l ≡ l .entries = rw (zero-mul (full l)) (sub-zero (l .entries)) in

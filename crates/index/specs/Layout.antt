@@ -56,16 +56,14 @@ pageHashAt l p = l .pages * 4096 + l .pages * l .key + p * 8
 unfoldable pub indexLength : Layout → ℕ
 indexLength l = l .pages * (4096 + l .key + 8) + 28
 
+-- The layout of an index with these settings and n entries.
+abbrev pub layoutWith : (version offset key n : ℕ) → Layout
+layoutWith version offset key n =
+    record { version = version; offset = offset; key = key; entries = n; pages = pagesFor n (4096 / (key + 4 + offset)) }
+
 -- What a footer says.
 unfoldable pub layoutFrom : List ℕ → Layout
-layoutFrom f =
-    record {
-      version = version f;
-      offset = offsetWidth f;
-      key = keyLength f;
-      entries = entryCount f;
-      pages = pagesFor (entryCount f) (4096 / (keyLength f + 4 + offsetWidth f));
-    }
+layoutFrom f = layoutWith (version f) (offsetWidth f) (keyLength f) (entryCount f)
 
 abbrev pub layoutOf : List ℕ → Layout
 layoutOf s = layoutFrom (footer s)

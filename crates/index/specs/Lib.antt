@@ -1,4 +1,3 @@
 pub mod Layout
 pub mod Check
 pub mod Entries
-pub mod Rising

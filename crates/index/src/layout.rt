@@ -1,7 +1,7 @@
 // Where things stand in an archive index. Every value of a layout is answered for: the types keep each sum and product
 // within its range.
 ghost use mathlib.Core.Path.{_≡_};
-ghost use Prim.Native.Nat.{_≤_};
+ghost use Prim.Native.Nat.{_-_, _≤_};
 ghost use Rattle.index.specs.Layout as spec;
 
 // What the footer says: version, offset width, key length, entry count and page count.
@@ -20,6 +20,28 @@ pub struct Page(pub u32);
 pub struct Slot(pub u32);
 
 impl Layout {
+    // The layout of an index with these settings and so many entries.
+    pub fn new(version: u8, offset: u8, key: u8, entries: u32) -> Layout
+        ensures { λ r. ⌜ r ≡ spec.layoutWith version offset key entries ⌝ }
+    {
+        let unpaged = Layout {
+            version,
+            offset,
+            key,
+            entries,
+            pages: 0,
+        };
+        let full = unpaged.full();
+        let pages = ((entries as usize + full - 1) / full) as u32;
+        Layout {
+            version,
+            offset,
+            key,
+            entries,
+            pages,
+        }
+    }
+
     // The bytes of an entry: key, encoded size and location.
     pub fn entry_size(self) -> usize
         ensures { λ r. ⌜ r ≡ spec.entrySize self ⌝ }
@@ -50,6 +72,17 @@ impl Layout {
             return entries - before;
         }
         full
+    }
+
+    // The slot of a page's last entry; 0 where it has none.
+    pub fn last_slot(self, page: Page) -> Slot
+        ensures { λ r. ⌜ r .0 ≡ spec.onPage self (page .0) - 1 ⌝ }
+    {
+        let count = self.on_page(page) as u32;
+        if count == 0 {
+            return Slot(0);
+        }
+        Slot(count - 1)
     }
 
     // Where a slot of a page stands.

@@ -28,9 +28,10 @@ mod pages;
 pub use layout::Layout;
 pub use layout::Page;
 pub use layout::Slot;
+pub use pages::page_hashes;
 
 // The most entries an index has.
-const MOST_ENTRIES: u64 = 8_388_608;
+pub const MOST_ENTRIES: u64 = 8_388_608;
 
 // What opening or checking an index answers.
 pub enum Checked {
@@ -108,24 +109,8 @@ fn read_layout(footer: &[u8]) -> Layout
     let version = byte(footer, 8);
     let offset = byte(footer, 12);
     let key = byte(footer, 14);
-    let n = little(footer, 16, 4) as usize;
-    let entries = n as u32;
-    let unpaged = Layout {
-        version,
-        offset,
-        key,
-        entries,
-        pages: 0,
-    };
-    let full = unpaged.full();
-    let pages = ((n + full - 1) / full) as u32;
-    Layout {
-        version,
-        offset,
-        key,
-        entries,
-        pages,
-    }
+    let entries = little(footer, 16, 4) as u32;
+    Layout::new(version, offset, key, entries)
 }
 
 // Refusals 2 to 4.

@@ -1,7 +1,7 @@
 -- Laws of checks: what a check that has spoken, or has not, says of its test.
 use mathlib.Core.Path.{_≡_, refl, sym, ap, ap₂, _∙_}
 use mathlib.Core.Bool.{Bool, true, false}
-use Prim.Native.Nat.{ℕ, zero, suc, _+_, _-_, _<_}
+use Prim.Native.Nat.{ℕ, zero, suc, _+_, _-_, _≤_, _<_}
 use native.Mathlib.Nat.{add-zero, not-suc-le-zero, le-of-suc-le-suc}
 use native.Mathlib.Omega.{arith}
 use mathlib.Core.List.{List}
@@ -82,6 +82,13 @@ from-each check i (suc n) e zero h = rw add-zero (first-left (check i) (firstFro
 from-each check i (suc n) e (suc j) h =
     let shift : i + suc j ≡ suc i + j = omega arith in
     rw shift (from-each check (suc i) n (first-right (check i) (firstFrom check (suc i) n) e) j (le-of-suc-le-suc h))
+
+-- and where each is silent, none speaks
+pub from-silent : (check : ℕ → Check) (i n : ℕ) → ((j : ℕ) → i ≤ j → j < i + n → check j ≡ silent) → firstFrom check i n ≡ silent
+unfolding firstFrom
+from-silent check i zero h = refl
+from-silent check i (suc n) h =
+    skip (h i (omega arith) (omega arith)) (from-silent check (suc i) n (λ j a b. h j (omega arith) (omega arith)))
 
 -- a verdict that is handed on
 pub refused-is : (v : Verdict) (k : Check) {r : Refusal} → checkOf v ≡ k → v ≡ Refused r → k ≡ refused (r .number) (r .place)

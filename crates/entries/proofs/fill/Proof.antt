@@ -7,16 +7,16 @@ use native.Mathlib.Omega.{arith}
 use lib.ListN.{length, drop}
 use borrow.Author.Needs.{needs}
 use Rattle.refusal.specs.Output.{filled}
-use Rattle.field.specs.Part.{partAt}
-use Rattle.index.specs.Entries.{listFrom}
+use Rattle.field.specs.Part.{partAt, partsFrom}
+use Rattle.field.proofs.Parts.{filled-length, parts-room, part-turn}
+use Rattle.index.specs.Entries.{entriesOf, entriesBy}
 use Rattle.index.proofs.Laws.{on-page-fits}
-use Rattle.entries.proofs.Laws.{list-room, filled-length, page-turn}
 use Rattle.entries.proofs.fill.Statement.{statement}
 use Rattle.entries.proofs.fill.Tie as tie
 
 abbrev Inv-loop : tie.InvT-loop
 Inv-loop index l output₀ size pages to₀ p₀ output to p =
-    (p ≤ pages) × (to ≡ length (listFrom index l 0 p)) × (output ≡ (listFrom index l 0 p) ++ drop (length (listFrom index l 0 p)) output₀)
+    (p ≤ pages) × (to ≡ length (partsFrom (entriesOf index l) 0 p)) × (output ≡ (partsFrom (entriesOf index l) 0 p) ++ drop (length (partsFrom (entriesOf index l) 0 p)) output₀)
 
 abbrev μ-loop : tie.MeasureT-loop
 μ-loop index l output₀ size pages to₀ p₀ output to p = pages - p
@@ -25,7 +25,7 @@ entry-size-requires : tie.Need-entry-size-requires Inv-loop μ-loop
 entry-size-requires c κs = search needs
 
 loop-holds : tie.Need-loop-holds Inv-loop μ-loop
-unfolding listFrom
+unfolding partsFrom
 loop-holds c =
     (search needs, refl, refl)
 
@@ -51,12 +51,13 @@ copy-requires : tie.Need-copy-requires Inv-loop μ-loop
 copy-requires c κs = search needs
 
 add-to : tie.Need-add-to Inv-loop μ-loop
+unfolding entriesBy
 add-to c =
     let a = c .before .before .before .before .before .before .before .before .before .before .before .args in
     let l = c .before .before .before .before .before .before .before .loop in
     let page = c .before .before .before .before .part .ensures ∙ ap (partAt (a .index .now) (l .p * 4096)) (ap₂ (λ m n. m * n) (c .before .before .before .before .before .on-page .ensures) (c .before .before .before .before .before .before .before .before .entry-size .ensures .0)) in
-    let turn = page-turn (a .index .now) (a .l) (l .p) (a .l .pages) _ (a .output .now) _ _ (c .before .before .before .before .before .before .loop-test .taken) (c .before .before .before .before .before .before .before .before .before .before .before .pre) page (l .inv .1) (l .inv .2) in
-    omega (arith, turn .0, list-room (a .index .now) (a .l) (l .p + 1) (a .l .pages) (omega arith), c .before .before .before .before .before .before .before .before .before .before .before .pre, c .before .before .before .before .before .before .before .before .before .before .before .good)
+    let turn = part-turn (entriesOf (a .index .now) (a .l)) (l .p) (a .l .pages) _ (a .output .now) _ _ (c .before .before .before .before .before .before .loop-test .taken) (c .before .before .before .before .before .before .before .before .before .before .before .pre) page (l .inv .1) (l .inv .2) in
+    omega (arith, turn .0, parts-room (entriesOf (a .index .now) (a .l)) (l .p + 1) (a .l .pages) (omega arith), c .before .before .before .before .before .before .before .before .before .before .before .pre, c .before .before .before .before .before .before .before .before .before .before .before .good)
 
 add-p : tie.Need-add-p Inv-loop μ-loop
 add-p c = search needs
@@ -65,26 +66,28 @@ loop-less : tie.Need-loop-less Inv-loop μ-loop
 loop-less c = search needs
 
 loop-again : tie.Need-loop-again Inv-loop μ-loop
+unfolding entriesBy
 loop-again c =
     let a = c .before .before .before .before .before .before .before .before .before .before .before .args in
     let l = c .before .before .before .before .before .before .before .loop in
     let page = c .before .before .before .before .part .ensures ∙ ap (partAt (a .index .now) (l .p * 4096)) (ap₂ (λ m n. m * n) (c .before .before .before .before .before .on-page .ensures) (c .before .before .before .before .before .before .before .before .entry-size .ensures .0)) in
-    let turn = page-turn (a .index .now) (a .l) (l .p) (a .l .pages) _ (a .output .now) _ _ (c .before .before .before .before .before .before .loop-test .taken) (c .before .before .before .before .before .before .before .before .before .before .before .pre) page (l .inv .1) (l .inv .2) in
+    let turn = part-turn (entriesOf (a .index .now) (a .l)) (l .p) (a .l .pages) _ (a .output .now) _ _ (c .before .before .before .before .before .before .loop-test .taken) (c .before .before .before .before .before .before .before .before .before .before .before .pre) page (l .inv .1) (l .inv .2) in
     (search needs, turn .0, c .before .before .copy .ensures ∙ turn .1)
 
 same-length : tie.Need-same-length Inv-loop μ-loop
+unfolding entriesBy
 same-length c =
     let a = c .before .before .before .before .before .args in
     let l = c .before .loop in
-    filled-length (listFrom (a .index .now) (a .l) 0 (l .p)) (a .output .now) (l .output) (l .inv .2) (le-trans (list-room (a .index .now) (a .l) (l .p) (a .l .pages) (l .inv .0)) (c .before .before .before .before .before .pre))
+    filled-length (partsFrom (entriesOf (a .index .now) (a .l)) 0 (l .p)) (a .output .now) (l .output) (l .inv .2) (le-trans (parts-room (entriesOf (a .index .now) (a .l)) (l .p) (a .l .pages) (l .inv .0)) (c .before .before .before .before .before .pre))
 
 returns : tie.Need-returns Inv-loop μ-loop
-unfolding filled
+unfolding filled entriesBy
 returns c =
     let a = c .before .before .before .before .before .args in
     let l = c .before .loop in
     let e : l .p ≡ a .l .pages = omega arith in
-    l .inv .2 ∙ ap (λ i. listFrom (a .index .now) (a .l) 0 i ++ drop (length (listFrom (a .index .now) (a .l) 0 i)) (a .output .now)) e
+    l .inv .2 ∙ ap (λ i. partsFrom (entriesOf (a .index .now) (a .l)) 0 i ++ drop (length (partsFrom (entriesOf (a .index .now) (a .l)) 0 i)) (a .output .now)) e
 
 pub fill-spec : {M : Type 1} → statement M
 fill-spec =

@@ -1,12 +1,9 @@
 -- `index::check`: 1 to 5, then the pages.
-use mathlib.Core.Path.{sym, ap, subst, _∙_}
-use Prim.Native.Nat.{_*_, _≤_}
-use lib.ListN.{length}
+use mathlib.Core.Path.{sym, ap, _∙_}
 use Rattle.refusal.proofs.Laws.{first-said, skip, refused-is, passed-is, after-said, after-quiet}
 use Rattle.index.specs.Layout.{layoutOf}
 use Rattle.index.specs.Check.{opening, pagesCheck, fullCheck, outcome}
 use Rattle.index.proofs.Laws.{passed-index, refused-index}
-use Rattle.index.proofs.Opened.{opened, pages-inside}
 use borrow.Author.Needs.{needs}
 use Rattle.index.proofs.check.Statement.{statement}
 use Rattle.index.proofs.check.Tie as tie
@@ -18,11 +15,7 @@ enum-known-opened : tie.Need-enum-known-opened
 enum-known-opened c = search needs
 
 check-pages-requires : tie.Need-check-pages-requires
-check-pages-requires c κs =
-    let s = c .before .before .before .before .before .args .index .now in
-    let o = c .before .before .before .open in
-    let i = passed-index (opening s) _ (layoutOf s) (o .result) (o .ensures) (c .before .opened .given .1) in
-    subst (λ l. l .pages * 4096 ≤ length s) (sym (i .1)) (pages-inside s (opened s (i .0)))
+check-pages-requires c κs = search needs
 
 enum-known-r : tie.Need-enum-known-r
 enum-known-r c = search needs

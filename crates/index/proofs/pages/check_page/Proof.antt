@@ -12,7 +12,7 @@ cast-place : tie.Need-cast-place
 cast-place c = search needs
 
 page-hash-right-requires : tie.Need-page-hash-right-requires
-page-hash-right-requires c κs = search needs
+page-hash-right-requires c κs = c .before .before .before .pre
 
 refuse-requires : tie.Need-refuse-requires
 refuse-requires c κs = search needs
@@ -31,7 +31,7 @@ refuse-requires-2 c κs = search needs
 returns-2 : tie.Need-returns-2
 unfolding pageCheck
 returns-2 c =
-    let p = c .before .before .before .before .before .before .before .args .page .0 in
+    let p = c .before .before .before .before .before .before .before .before .args .page .0 in
     c .refuse2 .ensures
     ∙ sym (skip (quiet index-page-hash p (c .before .before .before .before .page-hash-right .ensures) (c .before .before .before .if1 .left)) (first-said _ (said (c .before .before .padding-zero .ensures) (c .before .if2 .taken))))
 
@@ -44,7 +44,7 @@ enum-told c = search needs
 returns-3 : tie.Need-returns-3
 unfolding checkOf pageCheck
 returns-3 c =
-    let p = c .before .before .before .before .before .before .before .before .before .args .page .0 in
+    let p = c .before .before .before .before .before .before .before .before .before .before .args .page .0 in
     let v = c .before .before .check-order in
     let r = c .enum-told .given in
     rw (r .1)
@@ -63,7 +63,7 @@ refuse-requires-3 c κs = search needs
 returns-4 : tie.Need-returns-4
 unfolding pageCheck
 returns-4 c =
-    let p = c .before .before .before .before .before .before .before .before .before .before .before .before .args .page .0 in
+    let p = c .before .before .before .before .before .before .before .before .before .before .before .before .before .args .page .0 in
     let v = c .before .before .before .before .before .check-order in
     c .refuse3 .ensures
     ∙ sym (skip (quiet index-page-hash p (c .before .before .before .before .before .before .before .before .before .page-hash-right .ensures) (c .before .before .before .before .before .before .before .before .if1 .left))
@@ -73,7 +73,7 @@ returns-4 c =
 returns-5 : tie.Need-returns-5
 unfolding checkOf pageCheck
 returns-5 c =
-    let p = c .before .before .before .before .before .before .before .before .before .before .before .args .page .0 in
+    let p = c .before .before .before .before .before .before .before .before .before .before .before .before .args .page .0 in
     let v = c .before .before .before .before .check-order in
     sym (skip (quiet index-page-hash p (c .before .before .before .before .before .before .before .before .page-hash-right .ensures) (c .before .before .before .before .before .before .before .if1 .left))
     (skip (quiet index-padding p (c .before .before .before .before .before .before .padding-zero .ensures) (c .before .before .before .before .before .if2 .left))

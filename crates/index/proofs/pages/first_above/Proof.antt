@@ -1,11 +1,10 @@
 -- `index::pages::first_above`: the first key of the file, or two keys across a page end.
 use mathlib.Core.Path.{ap, _∙_}
 use Prim.Native.Nat.{_-_}
-use native.Mathlib.Omega.{arith}
 use Rattle.field.specs.Part.{partAt}
 use Rattle.index.specs.Layout.{entryAt}
 use Rattle.index.specs.Check.{notAbove}
-use Rattle.index.proofs.Laws.{on-page-most, not-above-first}
+use Rattle.index.proofs.Laws.{not-above-first}
 use borrow.Author.Needs.{needs}
 use Rattle.index.proofs.pages.first_above.Statement.{statement}
 use Rattle.index.proofs.pages.first_above.Tie as tie
@@ -15,16 +14,11 @@ unfolding notAbove
 returns c =
     rw (c .if1 .taken)
 
-sub-t9 : tie.Need-sub-t9
-sub-t9 c = search needs
+sub-t8 : tie.Need-sub-t8
+sub-t8 c = search needs
 
-on-page-requires : tie.Need-on-page-requires
-on-page-requires c κs = search needs
-
-last-of-requires : tie.Need-last-of-requires
-last-of-requires c κs =
-    let a = c .before .before .before .before .before .args in
-    omega (arith, on-page-most (a .l) (a .page .0 - 1))
+last-slot-requires : tie.Need-last-slot-requires
+last-slot-requires c κs = search needs
 
 entry-at-requires : tie.Need-entry-at-requires
 entry-at-requires c κs = search needs
@@ -46,12 +40,12 @@ rises-requires c κs = search needs
 
 returns-2 : tie.Need-returns-2
 returns-2 c =
-    let a = c .before .before .before .before .before .before .before .before .before .before .before .before .args in
+    let a = c .before .before .before .before .before .before .before .before .before .before .before .args in
     let s = a .index .now in
     let l = a .l in
     let p = a .page .0 in
-    let slot = c .before .before .before .before .before .before .last-of .ensures ∙ ap (λ n. n - 1) (c .before .before .before .before .before .before .before .on-page .ensures) in
-    not-above-first s l p _ _ (c .rises .result) (c .before .before .before .before .before .before .before .before .before .if1 .left) (c .rises .ensures)
+    let slot = c .before .before .before .before .before .before .last-slot .ensures in
+    not-above-first s l p _ _ (c .rises .result) (c .before .before .before .before .before .before .before .before .if1 .left) (c .rises .ensures)
     (c .before .before .before .part .ensures ∙ ap (λ at. partAt s at (l .key)) (c .before .before .before .before .before .entry-at .ensures ∙ ap (entryAt l (p - 1)) slot))
     (c .before .part2 .ensures ∙ ap (λ at. partAt s at (l .key)) (c .before .before .entry-at2 .ensures))
 
@@ -60,9 +54,8 @@ first-above-spec =
     tie.close
     (tie.spec
     returns
-    sub-t9
-    on-page-requires
-    last-of-requires
+    sub-t8
+    last-slot-requires
     entry-at-requires
     cast-key
     part-requires

@@ -1,23 +1,16 @@
 -- `index::pages::last_key_right`: the stored key against that of the last entry.
 use mathlib.Core.Path.{ap, _∙_}
-use Prim.Native.Nat.{_-_}
-use native.Mathlib.Omega.{arith}
 use Rattle.refusal.specs.Number.{last-key}
 use Rattle.field.specs.Part.{partAt}
 use Rattle.index.specs.Layout.{entryAt}
 use Rattle.index.specs.Check.{lastKeyCheck}
-use Rattle.index.proofs.Laws.{hash-told, on-page-most}
+use Rattle.index.proofs.Laws.{hash-told}
 use borrow.Author.Needs.{needs}
 use Rattle.index.proofs.pages.last_key_right.Statement.{statement}
 use Rattle.index.proofs.pages.last_key_right.Tie as tie
 
-on-page-requires : tie.Need-on-page-requires
-on-page-requires c κs = search needs
-
-last-of-requires : tie.Need-last-of-requires
-last-of-requires c κs =
-    let a = c .before .before .args in
-    omega (arith, on-page-most (a .l) (a .page .0))
+last-slot-requires : tie.Need-last-slot-requires
+last-slot-requires c κs = search needs
 
 entry-at-requires : tie.Need-entry-at-requires
 entry-at-requires c κs = search needs
@@ -40,10 +33,10 @@ equal-requires c κs = search needs
 returns : tie.Need-returns
 unfolding lastKeyCheck
 returns c =
-    let a = c .before .before .before .before .before .before .before .before .before .args in
+    let a = c .before .before .before .before .before .before .before .before .args in
     let l = a .l in
     let p = a .page .0 in
-    let slot = c .before .before .before .before .before .before .last-of .ensures ∙ ap (λ n. n - 1) (c .before .before .before .before .before .before .before .on-page .ensures) in
+    let slot = c .before .before .before .before .before .before .last-slot .ensures in
     hash-told _ _ _ _ (c .equal .result) last-key p (c .equal .ensures)
     (c .before .before .part .ensures ∙ ap (λ at. partAt (a .index .now) at (l .key)) (c .before .before .before .last-key-at .ensures))
     (c .before .part2 .ensures ∙ ap (λ at. partAt (a .index .now) at (l .key)) (c .before .before .before .before .before .entry-at .ensures ∙ ap (entryAt l p) slot))
@@ -52,8 +45,7 @@ pub last-key-right-spec : {M : Type 1} → statement M
 last-key-right-spec =
     tie.close
     (tie.spec
-    on-page-requires
-    last-of-requires
+    last-slot-requires
     entry-at-requires
     cast-key
     last-key-at-requires

@@ -1,9 +1,9 @@
--- `index::pages::wide`: a byte is below 256.
+-- `rising::wide`: a byte is below 256.
 use mathlib.Core.Path.{refl}
 use native.Mathlib.Omega.{arith}
 use borrow.Author.Needs.{needs}
-use Rattle.index.proofs.pages.wide.Statement.{statement}
-use Rattle.index.proofs.pages.wide.Tie as tie
+use Rattle.rising.proofs.wide.Statement.{statement}
+use Rattle.rising.proofs.wide.Tie as tie
 
 shared-slice-read-result : tie.Need-shared-slice-read-result
 shared-slice-read-result c = search needs

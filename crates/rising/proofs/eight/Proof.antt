@@ -1,9 +1,9 @@
--- `index::pages::eight`: eight bytes, the highest first.
+-- `rising::eight`: eight bytes, the highest first.
 use mathlib.Core.Path.{sym}
-use Rattle.index.proofs.Laws.{eight-halves}
+use Rattle.rising.proofs.Laws.{eight-halves}
 use borrow.Author.Needs.{needs}
-use Rattle.index.proofs.pages.eight.Statement.{statement}
-use Rattle.index.proofs.pages.eight.Tie as tie
+use Rattle.rising.proofs.eight.Statement.{statement}
+use Rattle.rising.proofs.eight.Tie as tie
 
 wide-requires : tie.Need-wide-requires
 wide-requires c κs = search needs

@@ -1,0 +1,2 @@
+pub mod Fall
+pub mod Skipped
