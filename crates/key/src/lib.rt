@@ -1,6 +1,11 @@
-// The order of keys: unsigned bytes from the left.
+// Keys: their order, unsigned bytes from the left, and their text.
 ghost use mathlib.Core.Path.{_≡_};
 ghost use Rattle.key.specs.Order.{compared, isBelow};
+
+mod text;
+
+pub use text::KeyText;
+pub use text::from_text;
 
 // How one key stands to another.
 pub enum Order {
