@@ -1,0 +1,298 @@
+-- An index that passes the full check, listed and written again with its settings, is the same file but for the contents hash.
+use mathlib.Core.Path.{_≡_, refl, sym, ap, ap₂, subst, _∙_}
+use mathlib.Core.Bool.{Bool, true, false, not, _&&_}
+use mathlib.Core.List.{List, [], _∷_, _++_, append-assoc, append-nil}
+use Prim.Native.Nat.{ℕ, zero, suc, _+_, _-_, _*_, _/_, _%_, _≤_, _<_, min}
+use native.Mathlib.Nat.{zero-mul, zero-add, add-zero, add-assoc, add-mul, mul-add, mul-assoc, mul-comm, mul-le-mul-right, div-add-mod', mod-lt, mul-div-cancel, mul-mod-left}
+use native.Mathlib.Decide.{decLt}
+use native.Mathlib.Omega.{arith}
+use lib.Dec.{ltb, leb, eqb}
+use lib.ListN.{length, take, drop, replicate, getD, length-append, length-take, length-drop, length-replicate, take-append-drop}
+use lib.Seq.{take-at, drop-at, take-all, drop-drop, drop-cons, getD-drop}
+use borrow.Author.Tests.{le-ltb, le-leb, eq-eqb, not-false}
+use Rattle.field.specs.Number.{byteAt, littleAt}
+use Rattle.field.specs.Part.{partAt, partsFrom, sameBytes, allZero, overlay}
+use Rattle.field.proofs.Laws.{part-of-part, partAt-inside, sameBytes-eq, allZero-eq, overlay-inside}
+use Rattle.field.proofs.Parts.{part-add, parts-same, parts-of, parts-at}
+use Rattle.md5.specs.Message.{md5, littleBytes}
+use Rattle.key.specs.Order.{compared, isBelow}
+use Rattle.refusal.specs.Check.{Check, silent, first, firstFrom}
+use Rattle.refusal.specs.Number as number
+use Rattle.refusal.specs.Number.{index-page-hash, index-padding, index-order, last-key, footer-hash}
+use Rattle.refusal.proofs.Laws.{silent-test, quiet, skip, first-left, first-right, from-each, from-silent}
+use Rattle.index.specs.declared.layout.Layout.{Layout}
+use Rattle.index.specs.Layout.{footer, entrySize, full, pagesFor, onPage, entryAt, lastKeyAt, pageHashAt, indexLength, layoutWith, layoutFrom, layoutOf, pageOf, keyAt}
+use Rattle.index.specs.Check.{fieldCheck, fieldsCheck, footerHashCheck, footerCheck, shortCheck, lengthCheck, opening, pageHashCheck, paddingCheck, orderCheck, lastKeyCheck, pageCheck, pagesCheck, fullCheck}
+use Rattle.index.specs.Entries.{entriesOf, entriesBy, listOf}
+use Rattle.index.proofs.Laws.{on-page-fits}
+use Rattle.index.proofs.Opened.{Opened, opened, field-range, full-positive, entries-held, list-length, entries-length, page-inside, on-page-full}
+use Rattle.writer.specs.File.{entriesIn, pageIn, lastKeyIn, pageHashIn, pages, lastKeys, pageHashes, fields, footerWith, fileOf, contentsHashOf, withContentsHash}
+use Rattle.writer.specs.Write as write
+use Rattle.writer.specs.Write.{settingsOf, within, settingsRight, entryCount, layoutFor, keyIn, writeCheck}
+use Rattle.writer.specs.Stored.{Held}
+use Rattle.writer.proofs.Parts.{first-eight-length}
+use Rattle.writer.proofs.Paged.{Same, keyOf, key-same, last-same, slot-order}
+
+fewer : (q p e : ℕ) → q * e < p * e → q < p
+fewer q p e h = go (decLt q p)
+  where
+    go : Dec (q < p) → q < p
+    go (yes less) = less
+    go (no more) =
+        let most : p ≤ q = omega arith in
+        absurd (omega (arith, h, mul-le-mul-right e most))
+
+module _ (s : List ℕ) (o : Opened s) where
+  abbrev l : Layout
+  l = layoutOf s
+
+  abbrev list : List ℕ
+  list = listOf s
+
+  held-again : Held list l
+  unfolding layoutFrom full entrySize
+  held-again = record { bytes = list-length s o; paged = refl; most = omega (arith, o .offset-high, o .key-high) }
+
+  -- the entries of a page stand in the list after those of the full pages before it
+  entries-again : (p : ℕ) → p < l .pages → entriesOf s l p ≡ entriesIn list l p
+  unfolding entriesBy
+  entries-again p k =
+      sym (ap₂ (λ t n. partAt t (p * (full l * entrySize l)) n) (sym (append-nil list)) (sym (entries-length s o p k))
+      ∙ parts-at (entriesOf s l) (full l * entrySize l) (l .pages) [] p k (λ j m. entries-length s o j (omega arith) ∙ ap (λ n. n * entrySize l) (on-page-full s o j (omega arith))))
+
+  pub same-again : Same s list l
+  same-again = record { held = held-again; entries = entries-again }
+
+  -- the checks of the pages
+  module _ (e : pagesCheck s l ≡ silent) where
+    page-silent : (p : ℕ) → p < l .pages → pageCheck s l p ≡ silent
+    unfolding pagesCheck
+    page-silent p k = subst (λ i. pageCheck s l i ≡ silent) (zero-add p) (from-each (pageCheck s l) 0 (l .pages) e p k)
+
+    module _ (p : ℕ) (k : p < l .pages) where
+      hash-again : take 8 (md5 (pageOf s p)) ≡ partAt s (pageHashAt l p) 8
+      unfolding pageCheck pageHashCheck
+      hash-again = sameBytes-eq _ _ (not-false _ (silent-test _ index-page-hash p (first-left (pageHashCheck s l p) _ (page-silent p k))))
+
+      padding-again : partAt s (entryAt l p (onPage l p)) (4096 - onPage l p * entrySize l) ≡ replicate (4096 - onPage l p * entrySize l) 0
+      unfolding pageCheck paddingCheck entryAt
+      padding-again =
+          let inside : entryAt l p (onPage l p) + (4096 - onPage l p * entrySize l) ≤ length s = omega (arith, on-page-fits l p, page-inside s o p k) in
+          allZero-eq _ (not-false _ (silent-test _ index-padding p (first-left (paddingCheck s l p) _ (first-right (pageHashCheck s l p) _ (page-silent p k)))))
+          ∙ ap (λ n. replicate n 0) (partAt-inside s (entryAt l p (onPage l p)) (4096 - onPage l p * entrySize l) inside)
+
+      rest-silent : first (firstFrom (orderCheck s l p) 0 (onPage l p)) (lastKeyCheck s l p) ≡ silent
+      unfolding pageCheck
+      rest-silent = first-right (paddingCheck s l p) _ (first-right (pageHashCheck s l p) _ (page-silent p k))
+
+      last-key-again : partAt s (lastKeyAt l p) (l .key) ≡ lastKeyIn list l p
+      unfolding lastKeyCheck
+      last-key-again =
+          sameBytes-eq _ _ (not-false _ (silent-test _ last-key p (first-right (firstFrom (orderCheck s l p) 0 (onPage l p)) (lastKeyCheck s l p) rest-silent)))
+          ∙ last-same s list l same-again p k
+
+      slot-silent : (i : ℕ) → i < onPage l p → orderCheck s l p i ≡ silent
+      slot-silent i n =
+          subst (λ j. orderCheck s l p j ≡ silent) (zero-add i)
+          (from-each (orderCheck s l p) 0 (onPage l p) (first-left (firstFrom (orderCheck s l p) 0 (onPage l p)) (lastKeyCheck s l p) rest-silent) i n)
+
+      page-again : pageIn list l p ≡ pageOf s p
+      unfolding pageIn entryAt
+      page-again =
+          let whole : onPage l p * entrySize l + (4096 - onPage l p * entrySize l) ≡ 4096 = omega (arith, on-page-fits l p) in
+          ap₂ _++_ (sym (entries-again p k)) (sym padding-again)
+          ∙ sym (part-add s (p * 4096) (onPage l p * entrySize l) (4096 - onPage l p * entrySize l)) ∙ ap (partAt s (p * 4096)) whole
+
+    -- the keys of the list rise
+    at-slot : (p i : ℕ) → p < l .pages → i < onPage l p → 1 ≤ p * full l + i
+        → isBelow (compared (keyOf list l (p * full l + i - 1)) (keyOf list l (p * full l + i))) ≡ true
+    unfolding orderCheck
+    at-slot p i k n m =
+        not-false _ (sym (slot-order s list l same-again p i k n m) ∙ silent-test _ index-order (p * full l + i) (slot-silent p k i n))
+
+    pub rises-again : (g : ℕ) → 1 ≤ g → g < l .entries → isBelow (compared (keyOf list l (g - 1)) (keyOf list l g)) ≡ true
+    unfolding onPage
+    rises-again g h k =
+        let low : 1 ≤ full l = full-positive s o in
+        let slot : g / full l * full l + g % full l ≡ g = div-add-mod' g (full l) in
+        let below : g % full l < full l = mod-lt g low in
+        let page : g / full l < l .pages = fewer (g / full l) (l .pages) (full l) (omega (arith, slot, k, entries-held s o)) in
+        subst (λ n. isBelow (compared (keyOf list l (n - 1)) (keyOf list l n)) ≡ true) slot
+        (at-slot (g / full l) (g % full l) page (omega (arith, below, slot, k)) (omega (arith, slot, h)))
+
+    -- the parts before the footer
+    pages-again : pages list l ≡ partAt s 0 (l .pages * 4096)
+    unfolding pages
+    pages-again =
+        parts-same (pageIn list l) (pageOf s) 0 (l .pages) (λ p a b. page-again p (omega arith)) ∙ parts-of s 4096 0 (l .pages)
+        ∙ ap (λ n. partAt s n (l .pages * 4096)) (zero-mul 4096)
+
+    last-keys-again : lastKeys list l ≡ partAt s (l .pages * 4096) (l .pages * l .key)
+    unfolding lastKeys lastKeyAt
+    last-keys-again =
+        parts-same (lastKeyIn list l) (λ p. partAt (drop (l .pages * 4096) s) (p * l .key) (l .key)) 0 (l .pages)
+        (λ p a b. sym (last-key-again p (omega arith)) ∙ ap (take (l .key)) (sym (drop-drop (p * l .key) (l .pages * 4096) s)))
+        ∙ parts-of (drop (l .pages * 4096) s) (l .key) 0 (l .pages) ∙ ap (λ n. partAt (drop (l .pages * 4096) s) n (l .pages * l .key)) (zero-mul (l .key))
+
+    hashes-again : pageHashes list l ≡ partAt s (l .pages * 4096 + l .pages * l .key) (l .pages * 8)
+    unfolding pageHashes pageHashIn pageHashAt
+    hashes-again =
+        parts-same (pageHashIn list l) (λ p. partAt (drop (l .pages * 4096 + l .pages * l .key) s) (p * 8) 8) 0 (l .pages)
+        (λ p a b. ap (λ m. take 8 (md5 m)) (page-again p (omega arith)) ∙ hash-again p (omega arith) ∙ ap (take 8) (sym (drop-drop (p * 8) (l .pages * 4096 + l .pages * l .key) s)))
+        ∙ parts-of (drop (l .pages * 4096 + l .pages * l .key) s) 8 0 (l .pages) ∙ ap (λ n. partAt (drop (l .pages * 4096 + l .pages * l .key) s) n (l .pages * 8)) (zero-mul 8)
+
+    pub contents-again : lastKeys list l ++ pageHashes list l ≡ partAt s (l .pages * 4096) (l .pages * (l .key + 8))
+    contents-again =
+        ap₂ _++_ last-keys-again hashes-again ∙ sym (part-add s (l .pages * 4096) (l .pages * l .key) (l .pages * 8))
+        ∙ ap (partAt s (l .pages * 4096)) (sym (mul-add (l .pages) (l .key) 8))
+
+    front-again : pages list l ++ lastKeys list l ++ pageHashes list l ≡ take (length s - 28) s
+    unfolding indexLength
+    front-again =
+        let size : l .pages * 4096 + l .pages * (l .key + 8) ≡ length s - 28 = omega (arith, o .whole, mul-add (l .pages) 4096 (l .key + 8), ap (λ n. l .pages * n) (add-assoc 4096 (l .key) 8)) in
+        append-assoc (pages list l) (lastKeys list l) (pageHashes list l) ∙ ap₂ _++_ pages-again (contents-again ∙ ap (λ n. partAt s n (l .pages * (l .key + 8))) (sym (zero-add (l .pages * 4096))))
+        ∙ sym (part-add s 0 (l .pages * 4096) (l .pages * (l .key + 8))) ∙ ap (λ n. take n s) size
+
+-- ---- the footer
+-- n bytes from an offset on
+bytesFrom : List ℕ → ℕ → ℕ → List ℕ
+bytesFrom f at zero = []
+bytesFrom f at (suc n) = byteAt f at ∷ bytesFrom f (at + 1) n
+
+part-bytes : (f : List ℕ) (at n : ℕ) → at + n ≤ length f → partAt f at n ≡ bytesFrom f at n
+unfolding bytesFrom
+part-bytes f at zero h = refl
+part-bytes f at (suc n) h =
+    let one : suc at ≡ at + 1 = omega arith in
+    ap (take (suc n)) (drop-cons f at 0 (omega arith)) ∙ ap (λ r. byteAt f at ∷ r) (ap (λ i. take n (drop i f)) one ∙ part-bytes f (at + 1) n (omega arith))
+
+-- a number's bytes are those that it was read from
+little-again : (f : List ℕ) (at n : ℕ) → ((i : ℕ) → byteAt f i < 256) → littleBytes n (littleAt f at n) ≡ bytesFrom f at n
+unfolding littleBytes littleAt bytesFrom
+little-again f at zero h = refl
+little-again f at (suc n) h =
+    let low = h at in
+    let first : (byteAt f at + 256 * littleAt f (at + 1) n) % 256 ≡ byteAt f at = omega (arith, low) in
+    let rest : (byteAt f at + 256 * littleAt f (at + 1) n) / 256 ≡ littleAt f (at + 1) n = omega (arith, low) in
+    ap₂ (λ x y. x ∷ littleBytes n y) first rest ∙ ap (λ r. byteAt f at ∷ r) (little-again f (at + 1) n h)
+
+module _ (f : List ℕ) (size : length f ≡ 28) (bytes : (i : ℕ) → byteAt f i < 256) (e : fieldsCheck f ≡ silent) where
+  exact : (at x : ℕ) → fieldCheck f at x x ≡ silent → byteAt f at ≡ x
+  exact at x h =
+      let r = field-range f at x x h in
+      omega (arith, r .0, r .1)
+
+  version-low : byteAt f 8 ≤ 1
+  unfolding fieldsCheck
+  version-low = field-range f 8 0 1 (first-left (fieldCheck f 8 0 1) _ e) .1
+
+  -- the fields are those of the layout
+  fields-again : partAt f 8 12 ≡ fields (layoutFrom f)
+  unfolding fieldsCheck fields layoutFrom bytesFrom
+  fields-again =
+      let a = first-right (fieldCheck f 8 0 1) _ e in
+      let b = first-right (fieldCheck f 9 0 0) _ a in
+      let c = first-right (fieldCheck f 10 0 0) _ b in
+      let d = first-right (fieldCheck f 11 4 4) _ c in
+      let g = first-right (fieldCheck f 12 4 6) _ d in
+      let h = first-right (fieldCheck f 13 4 4) _ g in
+      let k = first-right (fieldCheck f 14 1 16) _ h in
+      part-bytes f 8 12 (omega (arith, size))
+      ∙ ap₂ _∷_ refl (ap₂ _∷_ (exact 9 0 (first-left (fieldCheck f 9 0 0) _ a)) (ap₂ _∷_ (exact 10 0 (first-left (fieldCheck f 10 0 0) _ b))
+      (ap₂ _∷_ (exact 11 4 (first-left (fieldCheck f 11 4 4) _ c)) (ap₂ _∷_ refl (ap₂ _∷_ (exact 13 4 (first-left (fieldCheck f 13 4 4) _ g))
+      (ap₂ _∷_ refl (ap₂ _∷_ (exact 15 8 k) (sym (little-again f 16 4 bytes)))))))))
+
+  footer-again : (contents : List ℕ) → footerHashCheck f ≡ silent → footerWith (layoutFrom f) contents ≡ take 8 (md5 contents) ++ drop 8 f
+  unfolding footerWith footerHashCheck
+  footer-again contents h =
+      let hash : take 8 (md5 (partAt f 8 12 ++ replicate 8 0)) ≡ partAt f 20 8 = sameBytes-eq _ _ (not-false _ (silent-test _ footer-hash 0 h)) in
+      append-assoc (take 8 (md5 contents)) (fields (layoutFrom f)) _
+      ∙ ap (λ r. take 8 (md5 contents) ++ r)
+      (ap₂ _++_ (sym fields-again) (ap (λ r. take 8 (md5 (r ++ replicate 8 0))) (sym fields-again) ∙ hash)
+      ∙ sym (part-add f 8 12 8) ∙ take-all 20 (drop 8 f) (omega (arith, length-drop 8 f, size)))
+
+-- ---- the file
+module _ (s : List ℕ) (bytes : (i : ℕ) → byteAt s i < 256) (e : fullCheck s ≡ silent) where
+  opening-silent : opening s ≡ silent
+  unfolding fullCheck
+  opening-silent = first-left (opening s) (pagesCheck s (layoutOf s)) e
+
+  known : Opened s
+  known = opened s opening-silent
+
+  pages-silent : pagesCheck s (layoutOf s) ≡ silent
+  unfolding fullCheck
+  pages-silent = first-right (opening s) (pagesCheck s (layoutOf s)) e
+
+  foot-silent : footerCheck (footer s) ≡ silent
+  unfolding opening
+  foot-silent = first-left (footerCheck (footer s)) (lengthCheck s) (first-right (shortCheck s) _ opening-silent)
+
+  foot-length : length (footer s) ≡ 28
+  foot-length = length-drop (length s - 28) s ∙ omega (arith, known .long)
+
+  foot-bytes : (i : ℕ) → byteAt (footer s) i < 256
+  foot-bytes i = rw (getD-drop (length s - 28) s i 0) (bytes (length s - 28 + i))
+
+  fields-silent : fieldsCheck (footer s) ≡ silent
+  unfolding footerCheck
+  fields-silent = first-left (fieldsCheck (footer s)) _ foot-silent
+
+  hash-silent : footerHashCheck (footer s) ≡ silent
+  unfolding footerCheck
+  hash-silent = first-left (footerHashCheck (footer s)) _ (first-right (fieldsCheck (footer s)) _ foot-silent)
+
+  pub version-again : layoutOf s .version ≤ 1
+  unfolding layoutFrom
+  version-again = version-low (footer s) foot-length foot-bytes fields-silent
+
+  -- the file of the list is the index with another contents hash
+  pub file-again : fileOf (listOf s) (layoutOf s) ≡ withContentsHash s (contentsHashOf s)
+  unfolding fileOf
+  file-again =
+      let l : Layout = layoutOf s in
+      let eight : length (contentsHashOf s) ≡ 8 = first-eight-length (partAt s (layoutOf s .pages * 4096) (layoutOf s .pages * (layoutOf s .key + 8))) in
+      let rest : drop 8 (footer s) ≡ drop (length s - 28 + length (contentsHashOf s)) s = drop-drop 8 (length s - 28) s ∙ ap (λ n. drop (length s - 28 + n) s) (sym eight) in
+      ap₂ _++_ (front-again s known pages-silent)
+      (footer-again (footer s) foot-length foot-bytes fields-silent (lastKeys (listOf s) l ++ pageHashes (listOf s) l) hash-silent
+      ∙ ap₂ (λ c r. take 8 (md5 c) ++ r) (contents-again s known pages-silent) rest)
+      ∙ sym (append-assoc (take (length s - 28) s) (contentsHashOf s) (drop (length s - 28 + length (contentsHashOf s)) s))
+      ∙ sym (overlay-inside s (length s - 28) (contentsHashOf s) (omega (arith, eight, known .long)))
+
+  -- and its settings and list are not refused
+  entries-again-count : entryCount (settingsOf (layoutOf s)) (listOf s) ≡ layoutOf s .entries
+  unfolding entryCount write.entrySize entrySize settingsOf
+  entries-again-count = ap (λ n. n / (layoutOf s .key + 4 + layoutOf s .offset)) (list-length s known) ∙ mul-div-cancel (layoutOf s .entries) (omega arith)
+
+  pub layout-again : layoutFor (settingsOf (layoutOf s)) (listOf s) ≡ layoutOf s
+  unfolding layoutFor layoutFrom settingsOf
+  layout-again = ap (layoutWith (layoutOf s .version) (layoutOf s .offset) (layoutOf s .key)) entries-again-count
+
+  right-again : settingsRight (settingsOf (layoutOf s)) ≡ true
+  unfolding settingsRight within settingsOf layoutFrom
+  right-again =
+      ap₂ _&&_ (ap₂ _&&_ (le-leb 0 (layoutOf s .version) (omega arith)) (le-leb (layoutOf s .version) 1 version-again))
+      (ap₂ _&&_ (ap₂ _&&_ (le-leb 4 (layoutOf s .offset) (known .offset-low)) (le-leb (layoutOf s .offset) 6 (known .offset-high)))
+      (ap₂ _&&_ (le-leb 1 (layoutOf s .key) (known .key-low)) (le-leb (layoutOf s .key) 16 (known .key-high))))
+
+  whole-again : length (listOf s) % write.entrySize (settingsOf (layoutOf s)) ≡ 0
+  unfolding write.entrySize entrySize settingsOf
+  whole-again = ap (λ n. n % (layoutOf s .key + 4 + layoutOf s .offset)) (list-length s known) ∙ mul-mod-left (layoutOf s .entries) (layoutOf s .key + 4 + layoutOf s .offset)
+
+  entry-silent : (i : ℕ) → 1 ≤ i → i < layoutOf s .entries → write.orderCheck (settingsOf (layoutOf s)) (listOf s) i ≡ silent
+  unfolding write.orderCheck keyIn write.entrySize entrySize settingsOf
+  entry-silent i h k = quiet index-order i refl (ap not (rises-again s known pages-silent i h k))
+
+  few-again : entryCount (settingsOf (layoutOf s)) (listOf s) ≤ 8388608
+  unfolding layoutFrom
+  few-again = omega (arith, entries-again-count, known .count)
+
+  pub write-silent : (room : ℕ) → length s ≤ room → writeCheck (settingsOf (layoutOf s)) (listOf s) room ≡ silent
+  unfolding writeCheck
+  write-silent room h =
+      let fits : indexLength (layoutFor (settingsOf (layoutOf s)) (listOf s)) ≤ room = omega (arith, h, known .whole, ap indexLength layout-again) in
+      skip (quiet number.settings 0 refl (ap not right-again))
+      (skip (quiet number.list-length 0 refl (ap not (eq-eqb _ 0 whole-again)))
+      (skip (quiet number.entry-count 0 refl (le-ltb 8388608 _ few-again))
+      (skip (from-silent (write.orderCheck (settingsOf (layoutOf s)) (listOf s)) 1 _ (λ i a b. entry-silent i a (omega (arith, b, entries-again-count))))
+      (quiet number.output-short 0 refl (le-ltb room _ fits)))))

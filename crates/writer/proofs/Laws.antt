@@ -1,0 +1,64 @@
+-- Laws of the writer's refusals, in their order.
+use mathlib.Core.Path.{_≡_, refl, sym, ap, _∙_}
+use mathlib.Core.Bool.{Bool, true, false, not}
+use mathlib.Core.List.{List}
+use Prim.Native.Nat.{ℕ, _+_, _-_, _*_, _%_, _≤_, _<_}
+use native.Mathlib.Omega.{arith}
+use lib.Dec.{ltb}
+use lib.ListN.{length}
+use borrow.Author.Tests.{lt-ltb, le-ltb, eq-eqb, ne-eqb}
+use Rattle.refusal.specs.Check.{Check, silent, refused, refusedIf, first, firstFrom}
+use Rattle.refusal.specs.Number.{settings, list-length, entry-count, index-order, output-short}
+use Rattle.refusal.proofs.Laws.{said, quiet, first-said, skip}
+use Rattle.rising.specs.Fall.{risesAt, fallFrom}
+use Rattle.rising.proofs.Laws.{fall-check, fall-low}
+use Rattle.index.specs.Layout.{indexLength}
+use Rattle.writer.specs.declared.Settings.{Settings}
+use Rattle.writer.specs.Write.{entrySize, entryCount, layoutFor, settingsRight, settingsCheck, wholeCheck, countCheck, keyIn, orderCheck, risingCheck, writeCheck}
+
+module _ (s : Settings) (list : List ℕ) (room : ℕ) where
+  pub judged-11 : settingsRight s ≡ false → writeCheck s list room ≡ refused settings 0
+  unfolding writeCheck
+  judged-11 e = first-said _ (said refl (ap not e))
+
+  module _ (right : settingsRight s ≡ true) where
+    pub judged-12 : (length list % entrySize s ≡ 0 → ⊥) → writeCheck s list room ≡ refused list-length 0
+    unfolding writeCheck
+    judged-12 h = skip (quiet settings 0 refl (ap not right)) (first-said _ (said refl (ap not (ne-eqb _ 0 h))))
+
+    module _ (whole : length list % entrySize s ≡ 0) where
+      pub judged-4 : 8388608 < entryCount s list → writeCheck s list room ≡ refused entry-count 0
+      unfolding writeCheck
+      judged-4 h =
+          skip (quiet settings 0 refl (ap not right)) (skip (quiet list-length 0 refl (ap not (eq-eqb _ 0 whole)))
+          (first-said _ (said refl (lt-ltb 8388608 (entryCount s list) h))))
+
+      module _ (few : entryCount s list ≤ 8388608) (fall : ℕ) (f : fall ≡ fallFrom list (entrySize s) (s .key) 1 (entryCount s list - 1)) where
+        rising-told : risingCheck s list ≡ refusedIf (ltb fall (1 + (entryCount s list - 1))) index-order fall
+        unfolding orderCheck keyIn risesAt
+        rising-told =
+            fall-check list (entrySize s) (s .key) (orderCheck s list) index-order (λ i. i) 1 (entryCount s list - 1) (λ j a b. refl)
+            ∙ ap (λ n. refusedIf (ltb n (1 + (entryCount s list - 1))) index-order n) (sym f)
+
+        three : (later : Check) {r : Check} → later ≡ r → first (settingsCheck s) (first (wholeCheck s list) (first (countCheck s list) later)) ≡ r
+        three later e =
+            skip (quiet settings 0 refl (ap not right)) (skip (quiet list-length 0 refl (ap not (eq-eqb _ 0 whole)))
+            (skip (quiet entry-count 0 refl (le-ltb 8388608 (entryCount s list) few)) e))
+
+        pub judged-8 : fall < entryCount s list → writeCheck s list room ≡ refused index-order fall
+        unfolding writeCheck
+        judged-8 h = three _ (first-said _ (said rising-told (lt-ltb fall (1 + (entryCount s list - 1)) (omega arith))))
+
+        module _ (rises : entryCount s list ≤ fall) where
+          rising-quiet : risingCheck s list ≡ silent
+          rising-quiet =
+              let low = fall-low list (entrySize s) (s .key) 1 (entryCount s list - 1) in
+              quiet index-order fall rising-told (le-ltb fall (1 + (entryCount s list - 1)) (omega (arith, low, f)))
+
+          pub judged-13 : room < indexLength (layoutFor s list) → writeCheck s list room ≡ refused output-short 0
+          unfolding writeCheck
+          judged-13 h = three _ (skip rising-quiet (said refl (lt-ltb room (indexLength (layoutFor s list)) h)))
+
+          pub judged-none : indexLength (layoutFor s list) ≤ room → writeCheck s list room ≡ silent
+          unfolding writeCheck
+          judged-none h = three _ (skip rising-quiet (quiet output-short 0 refl (le-ltb room (indexLength (layoutFor s list)) h)))

@@ -1,0 +1,140 @@
+-- `writer::file::write_page_hashes`: the hashes of the pages so far lie over the output, behind the pages.
+use mathlib.Core.Path.{_≡_, sym, ap, ap₂, _∙_}
+use Prim.Native.Nat.{_+_, _-_, _*_, _≤_}
+use native.Mathlib.Nat.{add-zero, zero-mul}
+use native.Mathlib.Omega.{arith}
+use lib.ListN.{length, take}
+use Rattle.field.specs.Part.{partAt, partsFrom, overlay}
+use Rattle.field.proofs.Laws.{overlay-none, overlay-length}
+use Rattle.index.specs.Layout.{pageHashAt}
+use Rattle.index.proofs.Laws.{bound}
+use Rattle.writer.specs.Stored.{hashesOf}
+use Rattle.writer.proofs.Filled.{hashed, hash-laid}
+use borrow.Author.Needs.{needs}
+use Rattle.writer.proofs.file.write_page_hashes.Statement.{statement}
+use Rattle.writer.proofs.file.write_page_hashes.Tie as tie
+
+abbrev Inv-loop : tie.InvT-loop
+Inv-loop output₀ pages to₀ p₀ output to p =
+    (p ≤ pages) × (pages * 4096 ≤ to₀) × (to ≡ to₀ + p * 8) × (output ≡ hashed output₀ to₀ p)
+
+abbrev μ-loop : tie.MeasureT-loop
+μ-loop output₀ pages to₀ p₀ output to p = pages - p
+
+page-hash-at-requires : tie.Need-page-hash-at-requires Inv-loop μ-loop
+page-hash-at-requires c κs = search needs
+
+loop-holds : tie.Need-loop-holds Inv-loop μ-loop
+unfolding partsFrom pageHashAt
+loop-holds c =
+    let a = c .before .before .args .l in
+    let at : c .page-hash-at .result ≡ a .pages * 4096 + a .pages * a .key = c .page-hash-at .ensures ∙ ap (λ n. a .pages * 4096 + a .pages * a .key + n) (zero-mul 8) ∙ add-zero _ in
+    (search needs, omega (arith, at), omega arith, sym (overlay-none _ _))
+
+page-hashes-requires : tie.Need-page-hashes-requires Inv-loop μ-loop
+page-hashes-requires c κs = search needs
+
+slice-aggregate-copy : tie.Need-slice-aggregate-copy Inv-loop μ-loop
+slice-aggregate-copy c = search needs
+
+copy-requires : tie.Need-copy-requires Inv-loop μ-loop
+copy-requires c κs = search needs
+
+add-next : tie.Need-add-next Inv-loop μ-loop
+add-next c = search needs
+
+same-length : tie.Need-same-length Inv-loop μ-loop
+same-length c =
+    let l = c .before .before .before .before .before .before .before .before .before .before .loop in
+    let out = c .before .before .before .before .before .before .before .before .before .before .before .before .before .args .output .now in
+    let start = c .before .before .before .before .before .before .before .before .before .before .before .page-hash-at .result in
+    let one = c .before .before .before .copy .ensures ∙ hash-laid out start _ _ _ (l .to) (l .p) (l .p) (l .inv .3) (c .before .before .before .before .before .before .before .page-hashes .ensures .0) (omega arith) (l .inv .3) (l .inv .2) in
+    ap length one ∙ overlay-length out start _
+
+returns : tie.Need-returns Inv-loop μ-loop
+unfolding hashesOf pageHashAt
+returns c =
+    let a = c .before .before .before .before .before .before .before .before .before .before .before .before .before .args .l in
+    let at : c .before .before .before .before .before .before .before .before .before .before .before .page-hash-at .result ≡ a .pages * 4096 + a .pages * a .key = c .before .before .before .before .before .before .before .before .before .before .before .page-hash-at .ensures ∙ ap (λ n. a .pages * 4096 + a .pages * a .key + n) (zero-mul 8) ∙ add-zero _ in
+    let l = c .before .before .before .before .before .before .before .before .before .before .loop in
+    let out = c .before .before .before .before .before .before .before .before .before .before .before .before .before .args .output .now in
+    let start = c .before .before .before .before .before .before .before .before .before .before .before .page-hash-at .result in
+    let one = c .before .before .before .copy .ensures ∙ hash-laid out start _ _ _ (l .to) (l .p) (l .p) (l .inv .3) (c .before .before .before .before .before .before .before .page-hashes .ensures .0) (omega arith) (l .inv .3) (l .inv .2) in
+    let e : l .p + 1 ≡ a .pages = omega arith in
+    one ∙ ap₂ (hashed out) at e
+
+slice-aggregate-copy-2 : tie.Need-slice-aggregate-copy-2 Inv-loop μ-loop
+slice-aggregate-copy-2 c = search needs
+
+add-copy : tie.Need-add-copy Inv-loop μ-loop
+unfolding pageHashAt
+add-copy c =
+    let a = c .before .before .before .before .before .before .before .before .before .before .before .before .before .before .before .before .args .l in
+    let at : c .before .before .before .before .before .before .before .before .before .before .before .before .before .before .page-hash-at .result ≡ a .pages * 4096 + a .pages * a .key = c .before .before .before .before .before .before .before .before .before .before .before .before .before .before .page-hash-at .ensures ∙ ap (λ n. a .pages * 4096 + a .pages * a .key + n) (zero-mul 8) ∙ add-zero _ in
+    omega (arith, at, bound (a .pages) (a .key) 4294967295 255 (omega arith) (omega arith))
+
+copy-requires-2 : tie.Need-copy-requires-2 Inv-loop μ-loop
+copy-requires-2 c κs = search needs
+
+add-to : tie.Need-add-to Inv-loop μ-loop
+unfolding pageHashAt
+add-to c =
+    let a = c .before .before .before .before .before .before .before .before .before .before .before .before .before .before .before .before .before .before .before .args .l in
+    let at : c .before .before .before .before .before .before .before .before .before .before .before .before .before .before .before .before .before .page-hash-at .result ≡ a .pages * 4096 + a .pages * a .key = c .before .before .before .before .before .before .before .before .before .before .before .before .before .before .before .before .before .page-hash-at .ensures ∙ ap (λ n. a .pages * 4096 + a .pages * a .key + n) (zero-mul 8) ∙ add-zero _ in
+    omega (arith, at, bound (a .pages) (a .key) 4294967295 255 (omega arith) (omega arith))
+
+add-p : tie.Need-add-p Inv-loop μ-loop
+add-p c = search needs
+
+loop-less : tie.Need-loop-less Inv-loop μ-loop
+loop-less c = search needs
+
+loop-again : tie.Need-loop-again Inv-loop μ-loop
+loop-again c =
+    let l = c .before .before .before .before .before .before .before .before .before .before .before .before .before .before .before .before .loop in
+    let out = c .before .before .before .before .before .before .before .before .before .before .before .before .before .before .before .before .before .before .before .args .output .now in
+    let start = c .before .before .before .before .before .before .before .before .before .before .before .before .before .before .before .before .before .page-hash-at .result in
+    let one = c .before .before .before .before .before .before .before .before .before .copy .ensures ∙ hash-laid out start _ _ _ (l .to) (l .p) (l .p) (l .inv .3) (c .before .before .before .before .before .before .before .before .before .before .before .before .before .page-hashes .ensures .0) (omega arith) (l .inv .3) (l .inv .2) in
+    let test = c .before .before .before .before .before .before .if1 .left in
+    let two : l .p + 1 + 1 ≡ l .p + 2 = omega arith in (
+      omega arith,
+      omega arith,
+      omega arith,
+      c .before .before .copy2 .ensures ∙ hash-laid out start _ _ _ (l .to + 8) (l .p + 1) (l .p) (l .inv .3) (c .before .before .before .before .before .before .before .before .before .before .before .before .before .page-hashes .ensures .1) (omega arith) one (omega arith) ∙ ap (hashed out start) two,
+    )
+
+same-length-2 : tie.Need-same-length-2 Inv-loop μ-loop
+same-length-2 c =
+    ap length (c .before .loop .inv .3) ∙ overlay-length (c .before .before .before .before .args .output .now) _ _
+
+returns-2 : tie.Need-returns-2 Inv-loop μ-loop
+unfolding hashesOf pageHashAt
+returns-2 c =
+    let a = c .before .before .before .before .args .l in
+    let at : c .before .before .page-hash-at .result ≡ a .pages * 4096 + a .pages * a .key = c .before .before .page-hash-at .ensures ∙ ap (λ n. a .pages * 4096 + a .pages * a .key + n) (zero-mul 8) ∙ add-zero _ in
+    let e : c .before .loop .p ≡ a .pages = omega arith in
+    c .before .loop .inv .3 ∙ ap₂ (hashed (c .before .before .before .before .args .output .now)) at e
+
+pub write-page-hashes-spec : {M : Type 1} → statement M
+write-page-hashes-spec =
+    tie.close
+    (tie.spec
+    Inv-loop
+    μ-loop
+    page-hash-at-requires
+    loop-holds
+    page-hashes-requires
+    slice-aggregate-copy
+    copy-requires
+    add-next
+    same-length
+    returns
+    slice-aggregate-copy-2
+    add-copy
+    copy-requires-2
+    add-to
+    add-p
+    loop-less
+    loop-again
+    same-length-2
+    returns-2)

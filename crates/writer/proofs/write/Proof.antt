@@ -1,0 +1,80 @@
+-- `writer::write`: refused, or the whole file.
+use mathlib.Core.Path.{_≡_, sym, ap, subst, _∙_}
+use mathlib.Core.List.{_∷_, []}
+use Prim.Native.Nat.{_≤_}
+use lib.ListN.{length}
+use Rattle.refusal.specs.Outcome.{answered}
+use Rattle.refusal.specs.Check.{silent}
+use Rattle.refusal.specs.Output.{filled}
+use Rattle.refusal.proofs.Laws.{after-said, after-quiet}
+use Rattle.index.specs.Layout.{indexLength}
+use Rattle.index.proofs.Laws.{passed-index, refused-index}
+use Rattle.writer.specs.File.{fileOf}
+use Rattle.writer.specs.Write.{layoutFor, writeCheck, outcome}
+use Rattle.writer.specs.Stored.{Held}
+use Rattle.writer.proofs.Passed.{passed, held}
+use borrow.Author.Needs.{needs}
+use Rattle.writer.proofs.write.Statement.{statement}
+use Rattle.writer.proofs.write.Tie as tie
+
+judge-requires : tie.Need-judge-requires
+judge-requires c κs = search needs
+
+enum-known-r : tie.Need-enum-known-r
+enum-known-r c = search needs
+
+enum-known-l : tie.Need-enum-known-l
+enum-known-l c = search needs
+
+write-file-requires : tie.Need-write-file-requires
+write-file-requires c κs =
+    let a = c .before .before .before .before .before .before .before .args in
+    let s = a .settings in
+    let t = a .list .now in
+    let out = a .output .now in
+    let v = c .before .before .before .before .judge in
+    let i = passed-index (writeCheck s t (length out)) _ (layoutFor s t) (v .result) (v .ensures) (c .before .before .l .given .1) in
+    let p = passed s t (length out) (i .0) in
+    (subst (Held t) (sym (i .1)) (held s t (length out) p), subst (λ l. indexLength l ≤ length out) (sym (i .1)) (p .fits))
+
+length-requires : tie.Need-length-requires
+length-requires c κs = search needs
+
+returns : tie.Need-returns
+unfolding outcome filled
+returns c =
+    let a = c .before .before .before .before .before .before .args in
+    let s = a .settings in
+    let t = a .list .now in
+    let v = c .before .before .before .judge in
+    let e = refused-index (writeCheck s t (length (a .output .now))) (layoutFor s t) (v .result) (v .ensures) (c .before .r .given .1) in
+    (sym (after-said _ e), sym (ap (λ k. filled k (fileOf t (layoutFor s t)) (a .output .now)) e))
+
+same-length : tie.Need-same-length
+same-length c = search needs
+
+returns-2 : tie.Need-returns-2
+unfolding outcome
+returns-2 c =
+    let a = c .before .before .before .before .before .before .before .before .before .before .before .args in
+    let s = a .settings in
+    let t = a .list .now in
+    let out = a .output .now in
+    let v = c .before .before .before .before .before .before .before .before .judge in
+    let i = passed-index (writeCheck s t (length out)) _ (layoutFor s t) (v .result) (v .ensures) (c .before .before .before .before .before .before .l .given .1) in (
+      ap (λ n. answered (n ∷ [])) (c .length .ensures ∙ ap indexLength (i .1)) ∙ sym (after-quiet _ (i .0)),
+      c .before .before .before .write-file .ensures ∙ ap (λ l. filled silent (fileOf t l) out) (i .1) ∙ sym (ap (λ k. filled k (fileOf t (layoutFor s t)) out) (i .0)),
+    )
+
+pub write-spec : {M : Type 1} → statement M
+write-spec =
+    tie.close
+    (tie.spec
+    judge-requires
+    enum-known-r
+    enum-known-l
+    write-file-requires
+    length-requires
+    returns
+    same-length
+    returns-2)

@@ -1,0 +1,98 @@
+// Writing an archive index from its settings and its list.
+use index::Checked;
+use index::Layout;
+use index::MOST_ENTRIES;
+use refusal::ENTRY_COUNT;
+use refusal::INDEX_ORDER;
+use refusal::LIST_LENGTH;
+use refusal::OUTPUT_SHORT;
+use refusal::Refusal;
+use refusal::SETTINGS;
+ghost use mathlib.Core.Path.{_≡_};
+ghost use lib.ListN.{length};
+ghost use Rattle.refusal.specs.Outcome.{answered, refusal, after};
+ghost use Rattle.refusal.specs.Output.{filled};
+ghost use Rattle.index.specs.Check as check;
+ghost use Rattle.writer.specs.File.{fileOf};
+ghost use Rattle.writer.specs.Write as spec;
+
+mod file;
+
+// What an index is written with, beside its list: version, offset width and key length.
+pub struct Settings {
+    pub version: u8,
+    pub offset: u8,
+    pub key: u8,
+}
+
+// What writing answers: the bytes of the file, or a refusal.
+pub enum Written {
+    File(usize),
+    Refused(Refusal),
+}
+
+fn refuse(number: u32, place: usize) -> Checked
+    ensures { λ r. ⌜ check.outcome r ≡ refusal number place ⌝ }
+{
+    Checked::Refused(Refusal { number, place })
+}
+
+fn within(x: u8, low: u8, high: u8) -> bool
+    ensures { λ r. ⌜ r ≡ spec.within x low high ⌝ }
+{
+    low <= x && x <= high
+}
+
+fn settings_right(settings: Settings) -> bool
+    ensures { λ r. ⌜ r ≡ spec.settingsRight settings ⌝ }
+{
+    if !within(settings.version, 0, 1) {
+        return false;
+    }
+    if !within(settings.offset, 4, 6) {
+        return false;
+    }
+    within(settings.key, 1, 16)
+}
+
+// Refusals 11, 12, 4, 8 and 13, and the layout of the file.
+fn judge(settings: Settings, list: &[u8], room: usize) -> Checked
+    ensures { λ r. ⌜ check.outcome r ≡ after (spec.writeCheck settings (now (list .entry)) room) (answered (check.told (spec.layoutFor settings (now (list .entry))))) ⌝ }
+{
+    if !settings_right(settings) {
+        return refuse(SETTINGS, 0);
+    }
+    let key = settings.key;
+    let size = key as usize + 4 + settings.offset as usize;
+    if list.len() % size != 0 {
+        return refuse(LIST_LENGTH, 0);
+    }
+    let entries = list.len() / size;
+    if MOST_ENTRIES < entries as u64 {
+        return refuse(ENTRY_COUNT, 0);
+    }
+    let count = entries as u32;
+    let fall = rising::fall(list, size as u16, key, count);
+    if fall < count {
+        return refuse(INDEX_ORDER, fall as usize);
+    }
+    let l = Layout::new(settings.version, settings.offset, key, count);
+    if room < l.length() {
+        return refuse(OUTPUT_SHORT, 0);
+    }
+    Checked::Passed(l)
+}
+
+// Writes the index of a list into the output.
+pub fn write(settings: Settings, list: &[u8], output: &mut [u8]) -> Written
+    ensures { λ r. ⌜ spec.outcome r ≡ spec.writeOutcome settings (now (list .entry)) (length (now (output .entry))) ⌝ }
+    ensures { λ _. ⌜ now (output .exit) ≡ filled (spec.writeCheck settings (now (list .entry)) (length (now (output .entry)))) (fileOf (now (list .entry)) (spec.layoutFor settings (now (list .entry)))) (now (output .entry)) ⌝ }
+{
+    match judge(settings, list, output.len()) {
+        Checked::Refused(r) => Written::Refused(r),
+        Checked::Passed(l) => {
+            file::write_file(list, l, output);
+            Written::File(l.length())
+        }
+    }
+}
