@@ -1,0 +1,86 @@
+-- `listing::put_header`: one text after the other.
+use native.Mathlib.Omega.{arith}
+use borrow.Author.Needs.{needs}
+use Rattle.listing.specs.Text.{ascii}
+use Rattle.listing.specs.Listing.{header}
+use Rattle.listing.proofs.PutLaws.{put-next}
+use Rattle.listing.proofs.Lengths.{header-length}
+use Rattle.listing.proofs.put_header.Statement.{statement}
+use Rattle.listing.proofs.put_header.Tie as tie
+
+slice-aggregate-put-number : tie.Need-slice-aggregate-put-number
+slice-aggregate-put-number c = search needs
+
+cast-put-number : tie.Need-cast-put-number
+cast-put-number c = search needs
+
+put-number-requires : tie.Need-put-number-requires
+put-number-requires c κs = omega (arith, c .before .before .before .before .pre, header-length (c .before .before .before .before .args .l))
+
+slice-aggregate-put-number-2 : tie.Need-slice-aggregate-put-number-2
+slice-aggregate-put-number-2 c = search needs
+
+cast-put-number-2 : tie.Need-cast-put-number-2
+cast-put-number-2 c = search needs
+
+put-number-requires-2 : tie.Need-put-number-requires-2
+put-number-requires-2 c κs = omega (arith, c .before .before .before .before .before .before .before .before .before .before .pre, header-length (c .before .before .before .before .before .before .before .before .before .before .args .l), c .before .before .before .before .before .put-number .ensures .end)
+
+slice-aggregate-put-number-3 : tie.Need-slice-aggregate-put-number-3
+slice-aggregate-put-number-3 c = search needs
+
+cast-put-number-3 : tie.Need-cast-put-number-3
+cast-put-number-3 c = search needs
+
+put-number-requires-3 : tie.Need-put-number-requires-3
+put-number-requires-3 c κs = omega (arith, c .before .before .before .before .before .before .before .before .before .before .before .before .before .before .before .before .pre, header-length (c .before .before .before .before .before .before .before .before .before .before .before .before .before .before .before .before .args .l), c .before .before .before .before .before .put-number2 .ensures .end, c .before .before .before .before .before .before .before .before .before .before .before .put-number .ensures .end)
+
+slice-aggregate-put-number-4 : tie.Need-slice-aggregate-put-number-4
+slice-aggregate-put-number-4 c = search needs
+
+cast-put-number-4 : tie.Need-cast-put-number-4
+cast-put-number-4 c = search needs
+
+put-number-requires-4 : tie.Need-put-number-requires-4
+put-number-requires-4 c κs = omega (arith, c .before .before .before .before .before .before .before .before .before .before .before .before .before .before .before .before .before .before .before .before .before .before .pre, header-length (c .before .before .before .before .before .before .before .before .before .before .before .before .before .before .before .before .before .before .before .before .before .before .args .l), c .before .before .before .before .before .put-number3 .ensures .end, c .before .before .before .before .before .before .before .before .before .before .before .put-number2 .ensures .end, c .before .before .before .before .before .before .before .before .before .before .before .before .before .before .before .before .before .put-number .ensures .end)
+
+slice-aggregate-put : tie.Need-slice-aggregate-put
+slice-aggregate-put c = search needs
+
+put-requires : tie.Need-put-requires
+put-requires c κs = omega (arith, c .before .before .before .before .before .before .before .before .before .before .before .before .before .before .before .before .before .before .before .before .before .before .before .before .before .before .before .pre, header-length (c .before .before .before .before .before .before .before .before .before .before .before .before .before .before .before .before .before .before .before .before .before .before .before .before .before .before .before .args .l), c .before .before .before .before .put-number4 .ensures .end, c .before .before .before .before .before .before .before .before .before .before .put-number3 .ensures .end, c .before .before .before .before .before .before .before .before .before .before .before .before .before .before .before .before .put-number2 .ensures .end, c .before .before .before .before .before .before .before .before .before .before .before .before .before .before .before .before .before .before .before .before .before .before .put-number .ensures .end)
+
+same-length : tie.Need-same-length
+same-length c = search needs
+
+returns : tie.Need-returns
+unfolding header ascii
+returns c =
+    put-next
+    (put-next
+    (put-next
+    (put-next (c .before .before .before .before .before .before .before .before .before .before .before .before .before .before .before .before .before .before .before .before .before .before .before .before .before .put-number .ensures) (c .before .before .before .before .before .before .before .before .before .before .before .before .before .before .before .before .before .before .before .put-number2 .ensures))
+    (c .before .before .before .before .before .before .before .before .before .before .before .before .before .put-number3 .ensures))
+    (c .before .before .before .before .before .before .before .put-number4 .ensures))
+    (c .before .before .put .ensures)
+
+pub put-header-spec : {M : Type 1} → statement M
+put-header-spec =
+    tie.close
+    (tie.spec
+    slice-aggregate-put-number
+    cast-put-number
+    put-number-requires
+    slice-aggregate-put-number-2
+    cast-put-number-2
+    put-number-requires-2
+    slice-aggregate-put-number-3
+    cast-put-number-3
+    put-number-requires-3
+    slice-aggregate-put-number-4
+    cast-put-number-4
+    put-number-requires-4
+    slice-aggregate-put
+    put-requires
+    same-length
+    returns)

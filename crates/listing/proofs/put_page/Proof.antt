@@ -1,0 +1,78 @@
+-- `listing::put_page`: the lines so far.
+use mathlib.Core.Path.{_≡_, ap}
+use Prim.Native.Nat.{_-_, _≤_}
+use native.Mathlib.Omega.{arith}
+use borrow.Author.Needs.{needs}
+use Rattle.field.specs.Part.{partsFrom}
+use Rattle.index.specs.Layout.{onPage}
+use Rattle.index.proofs.Laws.{on-page-most}
+use Rattle.listing.specs.Put.{Put}
+use Rattle.listing.specs.Listing.{line, pageText}
+use Rattle.listing.proofs.PutLaws.{put-none, put-same, put-length, put-part, part-ends}
+use Rattle.listing.proofs.put_page.Statement.{statement}
+use Rattle.listing.proofs.put_page.Tie as tie
+
+abbrev Inv-loop : tie.InvT-loop
+Inv-loop index l page output₀ at count to₀ i₀ output to i =
+    (i ≤ count) × Put output₀ at (partsFrom (line index l (page .0)) 0 i) output to
+
+abbrev μ-loop : tie.MeasureT-loop
+μ-loop index l page output₀ at count to₀ i₀ output to i = count - i
+
+on-page-requires : tie.Need-on-page-requires Inv-loop μ-loop
+on-page-requires c κs = search needs
+
+loop-holds : tie.Need-loop-holds Inv-loop μ-loop
+unfolding partsFrom
+loop-holds c = (search needs, put-none _ _)
+
+cast-t10 : tie.Need-cast-t10 Inv-loop μ-loop
+cast-t10 c =
+    let start = c .before .before .before .before .before in
+    omega (arith, c .before .before .on-page .ensures, on-page-most (start .args .l) (start .args .page .0))
+
+put-line-requires : tie.Need-put-line-requires Inv-loop μ-loop
+unfolding pageText
+put-line-requires c κs =
+    let start = c .before .before .before .before .before .before in
+    let l = c .before .before .loop in (
+      start .pre .0,
+      part-ends (line (start .args .index .now) (start .args .l) (start .args .page .0)) (l .i) (onPage (start .args .l) (start .args .page .0))
+          (rw (c .before .before .before .on-page .ensures) at (c .before .loop-test .taken)) (start .pre .1) (l .inv .1),
+    )
+
+add-i : tie.Need-add-i Inv-loop μ-loop
+add-i c = search needs
+
+loop-less : tie.Need-loop-less Inv-loop μ-loop
+loop-less c = search needs
+
+loop-again : tie.Need-loop-again Inv-loop μ-loop
+loop-again c = (search needs, put-part _ _ (c .before .before .before .before .before .loop .inv .1) (c .before .before .put-line .ensures))
+
+same-length : tie.Need-same-length Inv-loop μ-loop
+same-length c = put-length (c .before .loop .inv .1)
+
+returns : tie.Need-returns Inv-loop μ-loop
+unfolding pageText
+returns c =
+    let start = c .before .before .before .before .before in
+    let l = c .before .loop in
+    let all : l .i ≡ onPage (start .args .l) (start .args .page .0) = omega (arith, c .before .before .on-page .ensures) in
+    put-same (l .inv .1) (ap (partsFrom (line (start .args .index .now) (start .args .l) (start .args .page .0)) 0) all)
+
+pub put-page-spec : {M : Type 1} → statement M
+put-page-spec =
+    tie.close
+    (tie.spec
+    Inv-loop
+    μ-loop
+    on-page-requires
+    loop-holds
+    cast-t10
+    put-line-requires
+    add-i
+    loop-less
+    loop-again
+    same-length
+    returns)

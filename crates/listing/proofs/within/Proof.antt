@@ -1,0 +1,13 @@
+-- `listing::within`: a number against two bounds.
+use borrow.Author.Tests.{le-leb, lt-leb}
+use Rattle.listing.proofs.within.Statement.{statement}
+use Rattle.listing.proofs.within.Tie as tie
+
+returns : tie.Need-returns
+returns c = rw (le-leb (c .before .args .low) (c .before .args .number) (c .if1 .taken))
+
+returns-2 : tie.Need-returns-2
+returns-2 c = rw (lt-leb (c .before .args .low) (c .before .args .number) (c .if1 .left))
+
+pub within-spec : {M : Type 1} → statement M
+within-spec = tie.close (tie.spec returns returns-2)
