@@ -51,8 +51,13 @@ enum {
     DWARNIZZA_INDEX_ORDER = 8,       /* key not above the one before; place: entry */
     DWARNIZZA_LAST_KEY = 9,          /* stored last key wrong; place: page */
     DWARNIZZA_INDEX_KEY_LENGTH = 10, /* sought key not of the index's key length */
+    DWARNIZZA_SETTINGS = 11,         /* settings wrong */
+    DWARNIZZA_LIST_LENGTH = 12,      /* list not whole entries */
     DWARNIZZA_OUTPUT_SHORT = 13,     /* output shorter than what is to be written */
-    DWARNIZZA_HASH_LIMIT = 50        /* more than 2^48 bytes hashed */
+    DWARNIZZA_HASH_LIMIT = 50,       /* more than 2^48 bytes hashed */
+    DWARNIZZA_KEY_TEXT_LENGTH = 60,  /* key text not 2 * K characters */
+    DWARNIZZA_HEX_DIGIT = 61,        /* not a hex digit; place: digit */
+    DWARNIZZA_LISTING_INPUT = 70     /* listing input above 65,536 bytes */
 };
 
 /*
@@ -157,6 +162,53 @@ uint32_t dwarnizza_index_list(const uint8_t *index, size_t index_len,
                               uint64_t answer[8]);
 
 /*
+ * The index of a list, with these settings: version 0 or 1, offset_width (W) 4
+ * to 6, key_length (K) 1 to 16. The list is of entries as they stand in an
+ * index. The file has P * (4096 + K + 8) + 28 bytes, where a full page holds E
+ * entries, 4096 / (K + 4 + W) rounded down, and P is n / E rounded up.
+ *
+ * An index that is written passes the full check, and its list and settings
+ * are those given. The list of a checked index, written with the settings of
+ * that index, gives the same file but for the eight bytes of the contents
+ * hash, which the full check does not judge.
+ *
+ * Answered: the file is written at the start of output, and the bytes past it
+ * stay; answer[0] is how many were written.
+ * Refused, by the first that holds: 11 where a setting is another; 12 where
+ * list_len is no multiple of K + 4 + W; 4; 8, with the number of the first
+ * entry whose key is not above the one before; 13 where output_len is below
+ * the length of the file.
+ */
+uint32_t dwarnizza_index_write(uint8_t version, uint8_t offset_width,
+                               uint8_t key_length, const uint8_t *list,
+                               size_t list_len, uint8_t *output,
+                               size_t output_len, uint64_t answer[8]);
+
+/*
+ * The listing of an index, as text: a line for the whole, then a line for each
+ * entry. The index of one entry, with K = 1, W = 4, key 05, size 7 and
+ * location 9, has
+ *
+ *     index key=1 offset=4 entries=1 pages=1
+ *     05 7 - 9
+ *
+ * With W = 6 the archive number stands in place of the dash, and the offset in
+ * it is last. Keys are in lower-case hex, numbers in decimal, and each line
+ * ends in a line feed. No zero byte ends the text.
+ *
+ * The listing makes the full check. A refusal is one line in place of all:
+ * "refused 8 at 3", or "refused 1" for a number that names no place. Input
+ * above 65,536 bytes is "refused 70", whatever it holds.
+ *
+ * Answered always: answer[0] is the length of the text. Where output_len is
+ * that or more, the text is written at the start of output, and the bytes past
+ * it stay; else output keeps all its bytes, and a longer one may be tried.
+ */
+uint32_t dwarnizza_index_listing(const uint8_t *input, size_t input_len,
+                                 uint8_t *output, size_t output_len,
+                                 uint64_t answer[8]);
+
+/*
  * The lookup of a key, of K bytes.
  *
  * It halves the stored last keys to the first page whose last key is not below
@@ -190,6 +242,24 @@ uint32_t dwarnizza_index_lookup(const uint8_t *index, size_t index_len,
  */
 uint32_t dwarnizza_index_bound(const uint8_t *index, size_t index_len,
                                uint64_t answer[8]);
+
+/*
+ * Key text
+ *
+ * The text of a key of K bytes is 2 * K hex digits, 0 to 9, a to f and A to F,
+ * the higher of each two first. A key is never cut or filled up.
+ */
+
+/*
+ * The key of this text, of key_length (K) bytes.
+ * Answered: the first K bytes of key are written, and those past them stay;
+ * answer[0] is K.
+ * Refused: 11 where K is not 1 to 16; then 60 where text_len is not 2 * K; then
+ * 61, with the place of the first character that is no hex digit, from 0.
+ */
+uint32_t dwarnizza_key_text(const uint8_t *text, size_t text_len,
+                            uint8_t key_length, uint8_t key[16],
+                            uint64_t answer[8]);
 
 #ifdef __cplusplus
 }

@@ -1,2 +1,4 @@
 pub mod Answer
+pub mod Indexes
+pub mod Keys
 pub mod Md5State

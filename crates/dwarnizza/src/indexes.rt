@@ -4,6 +4,8 @@ use entries::Listed;
 use index::Checked;
 use lookup::Answer;
 use lookup::Bounded;
+use writer::Settings;
+use writer::Written;
 ghost use mathlib.Core.Path.{_≡_};
 ghost use lib.ListN.{length};
 ghost use Rattle.refusal.specs.Output.{filled};
@@ -11,7 +13,12 @@ ghost use Rattle.index.specs.Check.{checkOutcome};
 ghost use Rattle.index.specs.Entries.{listOf};
 ghost use Rattle.entries.specs.List.{listCheck, listOutcome};
 ghost use Rattle.lookup.specs.Lookup.{lookupOf, boundOf};
+ghost use Rattle.writer.specs.File.{fileOf};
+ghost use Rattle.writer.specs.Write.{layoutFor, writeCheck, writeOutcome};
+ghost use Rattle.listing.specs.Put.{fitted};
+ghost use Rattle.listing.specs.Listing as listing;
 ghost use Rattle.dwarnizza.specs.Answer.{result, wordsOf};
+ghost use Rattle.dwarnizza.specs.Indexes.{settingsFrom, listingOutcome};
 
 // The full check: version, offset width, key length, entries and pages.
 #[no_mangle]
@@ -92,4 +99,49 @@ pub extern "C" fn dwarnizza_index_bound(index: &[u8], answer: &mut [u64; 8]) -> 
             0
         }
     }
+}
+
+// Writes the index of a list: the bytes written.
+#[no_mangle]
+pub extern "C" fn dwarnizza_index_write(
+    version: u8,
+    offset: u8,
+    key: u8,
+    list: &[u8],
+    output: &mut [u8],
+    answer: &mut [u64; 8],
+) -> u32
+    ensures { λ r. ⌜ r ≡ result (writeOutcome (settingsFrom version offset key) (now (list .entry)) (length (now (output .entry)))) ⌝ }
+    ensures { λ _. ⌜ now (output .exit) ≡ filled (writeCheck (settingsFrom version offset key) (now (list .entry)) (length (now (output .entry)))) (fileOf (now (list .entry)) (layoutFor (settingsFrom version offset key) (now (list .entry)))) (now (output .entry)) ⌝ }
+    ensures { λ _. ⌜ now (answer .exit) ≡ wordsOf (writeOutcome (settingsFrom version offset key) (now (list .entry)) (length (now (output .entry)))) ⌝ }
+{
+    let settings = Settings {
+        version,
+        offset,
+        key,
+    };
+    match writer::write(settings, list, output) {
+        Written::Refused(r) => refused(r, answer),
+        Written::File(length) => {
+            *answer = [length as u64, 0, 0, 0, 0, 0, 0, 0];
+            0
+        }
+    }
+}
+
+// The listing of an index, or the line of a refusal: the length of the text. Where the output has no room for all of it, every
+// byte of the output stays.
+#[no_mangle]
+pub extern "C" fn dwarnizza_index_listing(
+    input: &[u8],
+    output: &mut [u8],
+    answer: &mut [u64; 8],
+) -> u32
+    ensures { λ r. ⌜ r ≡ result (listingOutcome (now (input .entry))) ⌝ }
+    ensures { λ _. ⌜ now (output .exit) ≡ fitted (listing.text (now (input .entry))) (now (output .entry)) ⌝ }
+    ensures { λ _. ⌜ now (answer .exit) ≡ wordsOf (listingOutcome (now (input .entry))) ⌝ }
+{
+    let characters = listing::listing(input, output) as u64;
+    *answer = [characters, 0, 0, 0, 0, 0, 0, 0];
+    0
 }

@@ -3,3 +3,4 @@
 mod answer;
 pub mod hash;
 pub mod indexes;
+pub mod keys;

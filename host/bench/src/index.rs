@@ -1,6 +1,6 @@
-//! Archive indexes: the full check and the list.
+//! Archive indexes: the full check, the list and the writer.
 
-use std::fmt;
+use std::fmt::{self, Debug};
 use std::hint::black_box;
 
 use second::index::{PAGE, Settings};
@@ -14,6 +14,13 @@ pub const SETTINGS: Settings = Settings {
     key_length: 16,
 };
 
+/// The same for the library.
+const LIBRARY_SETTINGS: dwarnizza::index::Settings = dwarnizza::index::Settings {
+    version: SETTINGS.version,
+    offset_width: SETTINGS.offset_width,
+    key_length: SETTINGS.key_length,
+};
+
 /// How many entries the indexes have, and the same as the table shows it.
 const ENTRIES: [(usize, &str); 2] = [(50_000, "50,000"), (1_000_000, "1,000,000")];
 
@@ -22,15 +29,17 @@ const ENTRIES: [(usize, &str); 2] = [(50_000, "50,000"), (1_000_000, "1,000,000"
 enum Task {
     Check,
     List,
+    Write,
 }
 
-const TASKS: [Task; 2] = [Task::Check, Task::List];
+const TASKS: [Task; 3] = [Task::Check, Task::List, Task::Write];
 
 impl fmt::Display for Task {
     fn fmt(&self, f: &mut fmt::Formatter<'_>) -> fmt::Result {
         f.write_str(match self {
             Task::Check => "check",
             Task::List => "list",
+            Task::Write => "write",
         })
     }
 }
@@ -64,7 +73,19 @@ fn print_row(task: Task, entries: usize, shown: &str) {
     let pages = &index[..SETTINGS.pages(entries) * PAGE];
     let [library, md5, second] = match task {
         Task::Check => check_seconds(&index, pages),
-        Task::List => list_seconds(&index, pages, &list),
+        Task::List => {
+            let library = |output: &mut [u8]| dwarnizza::index::list(black_box(&index), output);
+            let second = |output: &mut [u8]| second::index::list(black_box(&index), output);
+            fill_seconds(library, second, &list, pages)
+        }
+        Task::Write => {
+            let settings = LIBRARY_SETTINGS;
+            let library =
+                |output: &mut [u8]| dwarnizza::index::write(settings, black_box(&list), output);
+            let second =
+                |output: &mut [u8]| second::index::write(SETTINGS, black_box(&list), output);
+            fill_seconds(library, second, &index, pages)
+        }
     };
     let speed = |seconds: f64| pages.len() as f64 / seconds / 1e6;
     println!(
@@ -97,18 +118,22 @@ fn check_seconds(index: &[u8], pages: &[u8]) -> [f64; 3] {
     ])
 }
 
-/// As `check_seconds`, for the list.
-fn list_seconds(index: &[u8], pages: &[u8], list: &[u8]) -> [f64; 3] {
-    let (mut by_library, mut by_second) = (vec![0; list.len()], vec![0; list.len()]);
-    let library = |output: &mut [u8]| {
-        dwarnizza::index::list(black_box(index), output).expect("the index is good")
-    };
-    let second = |output: &mut [u8]| {
-        second::index::list(black_box(index), output).expect("the index is good")
-    };
+/// As `check_seconds`, for what fills an output with these bytes.
+fn fill_seconds<E: Debug, F: Debug>(
+    library: impl Fn(&mut [u8]) -> Result<usize, E>,
+    second: impl Fn(&mut [u8]) -> Result<usize, F>,
+    filled: &[u8],
+    pages: &[u8],
+) -> [f64; 3] {
+    let (mut by_library, mut by_second) = (vec![0; filled.len()], vec![0; filled.len()]);
+    let library = |output: &mut [u8]| library(output).expect("the index is good");
+    let second = |output: &mut [u8]| second(output).expect("the index is good");
     library(&mut by_library);
     second(&mut by_second);
-    assert!(by_library == list && by_second == list, "the lists differ");
+    assert!(
+        by_library == filled && by_second == filled,
+        "the outputs differ"
+    );
     timed([
         Box::new(|times| repeat(times, || library(black_box(&mut by_library)))),
         Box::new(|times| repeat(times, || md5_of_each(black_box(pages)))),

@@ -1,13 +1,11 @@
 //! `dwarnizza list`: the entries of an archive index.
 
 use std::ffi::{OsStr, OsString};
-use std::fs::{self, File};
-use std::io::{self, Write};
 use std::process::ExitCode;
 
 use dwarnizza::index;
 
-use crate::command::{Command, Error, operands, read};
+use crate::command::{Command, Error, create, file_and_out, read};
 
 pub const COMMAND: Command = Command {
     name: "list",
@@ -17,18 +15,8 @@ pub const COMMAND: Command = Command {
 };
 
 fn run(arguments: &[OsString]) -> Result<ExitCode, Error> {
-    let usage = |what: &str| Err(Error::Usage(format!("list: {what}")));
-    let [name, out] = operands(arguments)?[..] else {
-        return usage("one file and one new file are wanted");
-    };
-    if out == "-" {
-        return usage("the entries go into a new file, not to standard output");
-    }
-    let list = list(name)?;
-    create(out, &list).map_err(|error| Error::Create {
-        name: out.to_owned(),
-        error,
-    })?;
+    let [name, out] = file_and_out("list", arguments)?;
+    create(out, &list(name)?)?;
     Ok(ExitCode::SUCCESS)
 }
 
@@ -43,14 +31,4 @@ fn list(name: &OsStr) -> Result<Vec<u8>, Error> {
     })?;
     output.truncate(length);
     Ok(output)
-}
-
-/// Makes a file that is not there yet. Where it cannot be filled, it does not stay.
-fn create(name: &OsStr, bytes: &[u8]) -> io::Result<()> {
-    let filled = File::create_new(name)?.write_all(bytes);
-    if filled.is_err() {
-        // What kept the file from being filled is the error to tell.
-        let _ = fs::remove_file(name);
-    }
-    filled
 }

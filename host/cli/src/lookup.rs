@@ -1,11 +1,11 @@
 //! `dwarnizza lookup`: keys in an archive index.
 
-use std::ffi::{OsStr, OsString};
+use std::ffi::OsString;
 use std::io::{self, Write};
 use std::process::ExitCode;
 
-use dwarnizza::Refusal;
 use dwarnizza::index::{self, Entry, Lookup};
+use dwarnizza::{Key, Refusal};
 
 use crate::command::{Command, Error, operands, read, report, take_option};
 
@@ -41,20 +41,24 @@ fn run(arguments: &[OsString]) -> Result<ExitCode, Error> {
 
     let mut status = ExitCode::SUCCESS;
     for text in texts {
-        let Some(key) = key(text, widths.key) else {
-            report(&Error::KeyText {
-                text: text.to_os_string(),
-                digits: 2 * widths.key,
-            });
-            status = ExitCode::FAILURE;
-            continue;
+        let key = match Key::from_text(text.as_encoded_bytes(), widths.key) {
+            Ok(key) => key,
+            Err(refusal) => {
+                report(&Error::KeyText {
+                    text: text.to_os_string(),
+                    digits: 2 * usize::from(widths.key),
+                    refusal,
+                });
+                status = ExitCode::FAILURE;
+                continue;
+            }
         };
-        let lookup = index::lookup(&index, &key).map_err(refused)?;
+        let lookup = index::lookup(&index, key.as_bytes()).map_err(refused)?;
         if lookup.found().is_none() {
             status = ExitCode::FAILURE;
         }
         io::stdout()
-            .write_all(line(&key, lookup, widths).as_bytes())
+            .write_all(line(key.as_bytes(), lookup, widths).as_bytes())
             .map_err(Error::Write)?;
     }
     Ok(status)
@@ -63,7 +67,7 @@ fn run(arguments: &[OsString]) -> Result<ExitCode, Error> {
 /// How many bytes the keys and the locations of an index have.
 #[derive(Clone, Copy)]
 struct Widths {
-    key: usize,
+    key: u8,
     offset: u8,
 }
 
@@ -72,7 +76,7 @@ impl Widths {
     fn checked(index: &[u8]) -> Result<Self, Refusal> {
         let settings = index::check(index)?.settings;
         Ok(Self {
-            key: settings.key_length.into(),
+            key: settings.key_length,
             offset: settings.offset_width,
         })
     }
@@ -83,22 +87,10 @@ impl Widths {
         index::bound(index)?;
         let footer = &index[index.len() - 28..];
         Ok(Self {
-            key: footer[14].into(),
+            key: footer[14],
             offset: footer[12],
         })
     }
-}
-
-/// The key of so many bytes that this is the text of: two hex digits for each byte, and no more.
-fn key(text: &OsStr, length: usize) -> Option<Vec<u8>> {
-    let text = text.as_encoded_bytes();
-    if text.len() != 2 * length {
-        return None;
-    }
-    let digit = |byte: u8| char::from(byte).to_digit(16);
-    text.chunks(2)
-        .map(|pair| Some((digit(pair[0])? * 16 + digit(pair[1])?) as u8))
-        .collect()
 }
 
 /// A line of the output. A found key has the line of its entry in the listing of the index, where

@@ -7,6 +7,7 @@ mod command;
 mod list;
 mod lookup;
 mod md5;
+mod write;
 
 use std::env;
 use std::ffi::OsString;
@@ -15,7 +16,13 @@ use std::process::ExitCode;
 
 use command::{Command, Error, report};
 
-const COMMANDS: &[Command] = &[check::COMMAND, list::COMMAND, lookup::COMMAND, md5::COMMAND];
+const COMMANDS: &[Command] = &[
+    check::COMMAND,
+    list::COMMAND,
+    lookup::COMMAND,
+    md5::COMMAND,
+    write::COMMAND,
+];
 
 fn main() -> ExitCode {
     let arguments: Vec<OsString> = env::args_os().skip(1).collect();

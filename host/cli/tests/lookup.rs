@@ -97,18 +97,35 @@ fn locations() {
 /// go on.
 #[test]
 fn key_texts() {
+    let length = "refused 60: key text not two characters for each byte of the key";
+    let first = "refused 61 at 0: not a hex digit (digit 0)";
+    let second = "refused 61 at 1: not a hex digit (digit 1)";
+    let wrong = [
+        ("", length),
+        ("1", length),
+        ("010", length),
+        ("0x10", length),
+        ("1000", length),
+        ("1 ", second),
+        ("1g", second),
+        ("+1", first),
+        ("é", first),
+    ];
+    let texts = wrong.map(|(text, _)| text);
+    let error = |text, digits, refusal| {
+        format!(
+            "dwarnizza: {text}: not a key of this index, which is {digits} hex digits: {refusal}\n"
+        )
+    };
+    let errors = wrong
+        .map(|(text, refusal)| error(text, 2, refusal))
+        .concat();
     for option in [&[][..], &["--unchecked"]] {
-        let wrong = ["", "1", "010", "1 ", "0x10", "+1", "1g", "1000", "é"];
-        let mut errors = String::new();
-        for text in wrong {
-            errors +=
-                &format!("dwarnizza: {text}: not a key of this index, which is 2 hex digits\n");
-        }
-        let arguments = [&["lookup"], option, &["-"], &wrong, &["20"]].concat();
+        let arguments = [&["lookup"], option, &["-"], &texts, &["20"]].concat();
         expect(&arguments, &index(1, 4, 9), 1, "20 8 - 10\n", &errors);
     }
-    let errors = "dwarnizza: 10: not a key of this index, which is 32 hex digits\n";
-    expect(&["lookup", "-", "10"], &index(16, 4, 9), 1, "", errors);
+    let errors = error("10", 32, length);
+    expect(&["lookup", "-", "10"], &index(16, 4, 9), 1, "", &errors);
 }
 
 #[test]

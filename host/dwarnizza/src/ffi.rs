@@ -42,6 +42,25 @@ unsafe extern "C" {
         answer: &mut [u64; 8],
     ) -> u32;
 
+    pub fn dwarnizza_index_write(
+        version: u8,
+        offset_width: u8,
+        key_length: u8,
+        list: *const u8,
+        list_len: usize,
+        output: *mut u8,
+        output_len: usize,
+        answer: &mut [u64; 8],
+    ) -> u32;
+
+    pub fn dwarnizza_index_listing(
+        input: *const u8,
+        input_len: usize,
+        output: *mut u8,
+        output_len: usize,
+        answer: &mut [u64; 8],
+    ) -> u32;
+
     pub fn dwarnizza_index_lookup(
         index: *const u8,
         index_len: usize,
@@ -51,4 +70,12 @@ unsafe extern "C" {
     ) -> u32;
 
     pub fn dwarnizza_index_bound(index: *const u8, index_len: usize, answer: &mut [u64; 8]) -> u32;
+
+    pub fn dwarnizza_key_text(
+        text: *const u8,
+        text_len: usize,
+        key_length: u8,
+        key: &mut [u8; 16],
+        answer: &mut [u64; 8],
+    ) -> u32;
 }

@@ -1,8 +1,12 @@
 //! Archive indexes: for each encoding key, its encoded size and location.
 
+mod listing;
 mod lookup;
+mod write;
 
+pub use listing::{listing, listing_text};
 pub use lookup::{Entry, Lookup, Page, Slot, bound, lookup};
+pub use write::write;
 
 use crate::answer::answered;
 use crate::ffi;
@@ -28,6 +32,22 @@ pub struct Settings {
     pub offset_width: u8,
     /// How many bytes a key has: 1 to 16.
     pub key_length: u8,
+}
+
+impl Settings {
+    /// How many bytes an entry has: key, encoded size and location.
+    pub fn entry_len(self) -> usize {
+        usize::from(self.key_length) + 4 + usize::from(self.offset_width)
+    }
+
+    /// How many bytes the index of so many entries has. Settings and counts that [`write`] refuses
+    /// have a length too, and one past all numbers is the highest.
+    pub fn index_len(self, entries: usize) -> usize {
+        let full = 4096 / self.entry_len();
+        let of_a_page = 4096 + usize::from(self.key_length) + 8;
+        let of_pages = entries.div_ceil(full).saturating_mul(of_a_page);
+        of_pages.saturating_add(28)
+    }
 }
 
 /// The full check of an index.
@@ -103,11 +123,17 @@ fn count(word: u64) -> usize {
 mod tests {
     use super::*;
     use crate::answer::UNWRITTEN;
-    use crate::refusal::{INDEX_ORDER, OUTPUT_SHORT};
+    use crate::refusal::{INDEX_ORDER, LIST_LENGTH, OUTPUT_SHORT};
 
     const LIST: [u8; 18] = [5, 0, 0, 0, 7, 0, 0, 0, 9, 6, 0, 0, 0, 8, 0, 0, 0, 7];
 
-    /// The index of `LIST`, with key length 1 and offset width 4.
+    const SETTINGS: Settings = Settings {
+        version: 1,
+        offset_width: 4,
+        key_length: 1,
+    };
+
+    /// The index of `LIST` with `SETTINGS`.
     fn index() -> Vec<u8> {
         let settings = second::index::Settings {
             version: 1,
@@ -139,13 +165,16 @@ mod tests {
         (result, answer)
     }
 
-    fn call_list(index: &[u8], output: &mut [u8]) -> (u32, [u64; 8]) {
+    /// An export that reads an input and fills an output.
+    type Fill = unsafe extern "C" fn(*const u8, usize, *mut u8, usize, &mut [u64; 8]) -> u32;
+
+    fn call(fill: Fill, input: &[u8], output: &mut [u8]) -> (u32, [u64; 8]) {
         let mut answer = UNWRITTEN;
         // SAFETY: each pointer and length are those of one slice, and the slices do not overlap.
         let result = unsafe {
-            ffi::dwarnizza_index_list(
-                index.as_ptr(),
-                index.len(),
+            fill(
+                input.as_ptr(),
+                input.len(),
                 output.as_mut_ptr(),
                 output.len(),
                 &mut answer,
@@ -154,20 +183,99 @@ mod tests {
         (result, answer)
     }
 
+    fn call_write(settings: Settings, list: &[u8], output: &mut [u8]) -> (u32, [u64; 8]) {
+        let mut answer = UNWRITTEN;
+        let result = write::call_write(settings, list, output, &mut answer);
+        (result, answer)
+    }
+
+    fn answer(length: usize) -> (u32, [u64; 8]) {
+        (0, [length as u64, 0, 0, 0, 0, 0, 0, 0])
+    }
+
+    fn refused(number: u32, place: u64) -> (u32, [u64; 8]) {
+        (2, [number.into(), place, 0, 0, 0, 0, 0, 0])
+    }
+
     #[test]
     fn each_call_writes_the_whole_answer() {
-        let out_of_order = (2, [INDEX_ORDER.into(), 1, 0, 0, 0, 0, 0, 0]);
-        let output_short = (2, [OUTPUT_SHORT.into(), 0, 0, 0, 0, 0, 0, 0]);
         let (good, bad) = (index(), index_out_of_order());
         assert_eq!(call_check(&good), (0, [1, 4, 1, 2, 1, 0, 0, 0]));
-        assert_eq!(call_check(&bad), out_of_order);
+        assert_eq!(call_check(&bad), refused(INDEX_ORDER, 1));
 
         let mut output = [0xee; 18];
-        assert_eq!(call_list(&bad, &mut output), out_of_order);
-        assert_eq!(call_list(&good, &mut output[1..]), output_short);
+        let list = ffi::dwarnizza_index_list;
+        assert_eq!(call(list, &bad, &mut output), refused(INDEX_ORDER, 1));
+        let room = &mut output[1..];
+        assert_eq!(call(list, &good, room), refused(OUTPUT_SHORT, 0));
         assert_eq!(output, [0xee; 18]);
-        let listed = (0, [18, 0, 0, 0, 0, 0, 0, 0]);
-        assert_eq!(call_list(&good, &mut output), listed);
+        assert_eq!(call(list, &good, &mut output), answer(18));
         assert_eq!(output, LIST);
+    }
+
+    #[test]
+    fn each_call_of_the_writer_writes_the_whole_answer() {
+        let mut output = vec![0xee; index().len() + 1];
+        let falling = [&LIST[9..], &LIST[..9]].concat();
+        let version_2 = Settings {
+            version: 2,
+            ..SETTINGS
+        };
+        for (settings, list, number, place) in [
+            (version_2, &LIST[..], crate::refusal::SETTINGS, 0),
+            (SETTINGS, &LIST[1..], LIST_LENGTH, 0),
+            (SETTINGS, &falling, INDEX_ORDER, 1),
+        ] {
+            let answer = call_write(settings, list, &mut output);
+            assert_eq!(answer, refused(number, place));
+        }
+        let room = &mut output[2..];
+        assert_eq!(call_write(SETTINGS, &LIST, room), refused(OUTPUT_SHORT, 0));
+        assert!(output.iter().all(|&byte| byte == 0xee));
+
+        let (file, rest) = output.split_at_mut(index().len());
+        assert_eq!(call_write(SETTINGS, &LIST, file), answer(file.len()));
+        assert!(file == index());
+        assert_eq!(rest, [0xee]);
+    }
+
+    #[test]
+    fn each_call_of_the_listing_writes_the_whole_answer() {
+        let listing = ffi::dwarnizza_index_listing;
+        let text = b"index key=1 offset=4 entries=2 pages=1\n05 7 - 9\n06 8 - 7\n";
+        let mut output = [0xee; 60];
+        let room = &mut output[..text.len() - 1];
+        assert_eq!(call(listing, &index(), room), answer(text.len()));
+        assert_eq!(output, [0xee; 60]);
+        assert_eq!(call(listing, &index(), &mut output), answer(text.len()));
+        let (written, rest) = output.split_at(text.len());
+        assert_eq!(written, text);
+        assert!(rest.iter().all(|&byte| byte == 0xee));
+
+        let line = b"refused 8 at 1\n";
+        let mut output = [0xee; 15];
+        assert_eq!(
+            call(listing, &index_out_of_order(), &mut output),
+            answer(15)
+        );
+        assert_eq!(output, *line);
+    }
+
+    #[test]
+    fn lengths() {
+        let wide = Settings {
+            key_length: 16,
+            ..SETTINGS
+        };
+        assert_eq!(wide.entry_len(), 24);
+        let lengths = [0, 1, 170, 171].map(|entries| wide.index_len(entries));
+        assert_eq!(lengths, [28, 4148, 4148, 8268]);
+        let none = Settings {
+            version: 255,
+            offset_width: 255,
+            key_length: 255,
+        };
+        assert_eq!(none.index_len(7), 4096 + 255 + 8 + 28);
+        assert_eq!(none.index_len(usize::MAX), usize::MAX);
     }
 }

@@ -4,14 +4,12 @@ mod compare;
 mod forge;
 mod random;
 
-use std::fmt;
-
-use compare::{Context, in_library_terms};
-use dwarnizza::index::{Settings, Summary};
+use compare::{Tally, compare_outputs, in_library_settings, in_library_terms, refusal_at, room};
+use dwarnizza::index::Summary;
 use dwarnizza::{Refusal, refusal};
 use forge::{
     COUNT, FOOTER_HASH, Fault, HASH_LENGTH, IndexFile, VERSION, all_settings, counted_list, flip,
-    keys, neighbour_lists, random_list, settings, spoil,
+    for_spoilt_files, keys, neighbour_lists, random_list, settings,
 };
 use random::Random;
 use second::index::{FOOTER, MOST_ENTRIES, PAGE};
@@ -20,23 +18,7 @@ use second::index::{FOOTER, MOST_ENTRIES, PAGE};
 type Answer = Result<Summary, Refusal>;
 
 fn refused(number: u32, place: usize) -> Answer {
-    Err(in_library_terms(second::refusal::Refusal {
-        number,
-        place: place as u64,
-    }))
-}
-
-fn in_library_settings(settings: second::index::Settings) -> Settings {
-    let second::index::Settings {
-        version,
-        offset_width,
-        key_length,
-    } = settings;
-    Settings {
-        version,
-        offset_width,
-        key_length,
-    }
+    Err(refusal_at(number, place))
 }
 
 /// The full check by the second program.
@@ -50,35 +32,17 @@ fn second_check(file: &[u8]) -> Answer {
 }
 
 fn list_len(summary: Summary) -> usize {
-    let Settings {
-        offset_width,
-        key_length,
-        ..
-    } = summary.settings;
-    summary.entries * (usize::from(key_length) + 4 + usize::from(offset_width))
+    summary.entries * summary.settings.entry_len()
 }
 
-/// What an output holds before a call.
-fn unwritten(room: usize) -> Vec<u8> {
-    (0..room).map(|i| (i * 7 + 3) as u8).collect()
-}
-
-/// The list by the library into an output of this size, after seeing that both programs give the
-/// same answer and leave the same bytes.
+/// The list by the library into an output of this size, compared with the second program's.
 #[track_caller]
 fn compare_list(file: &[u8], room: usize) -> Result<Vec<u8>, Refusal> {
-    let before = unwritten(room);
-    let (mut library, mut second) = (before.clone(), before.clone());
-    let expected = second::index::list(file, &mut second).map_err(in_library_terms);
-    assert_eq!(dwarnizza::index::list(file, &mut library), expected);
-    let written = *expected.as_ref().unwrap_or(&0);
-    assert!(library[..written] == second[..written], "lists differ");
-    assert!(
-        library[written..] == before[written..] && second[written..] == before[written..],
-        "a byte past the answer was written"
-    );
-    library.truncate(written);
-    expected.map(|_| library)
+    compare_outputs(
+        room,
+        |output| dwarnizza::index::list(file, output),
+        |output| second::index::list(file, output).map_err(in_library_terms),
+    )
 }
 
 /// Both programs give this answer to the full check, and list the file into outputs of all kinds.
@@ -468,76 +432,24 @@ fn keys_are_compared_whole_and_unsigned() {
     }
 }
 
-/// How often each answer was given.
-#[derive(Default)]
-struct Tally {
-    files: u64,
-    passed: u64,
-    refused: [u64; 14],
-}
-
-impl Tally {
-    /// Holds the two programs against each other on one file.
-    fn compare(&mut self, random: &mut Random, file: &[u8]) {
-        self.files += 1;
-        let answer = second_check(file);
-        assert_eq!(dwarnizza::index::check(file), answer);
-        let room = match answer {
-            Ok(summary) => {
-                self.passed += 1;
-                let length = list_len(summary);
-                match random.up_to(3) {
-                    0 => length,
-                    1 => length.saturating_sub(1),
-                    2 => length + 1 + random.up_to(500),
-                    _ => random.up_to(length),
-                }
-            }
-            Err(refusal) => {
-                self.refused[refusal.number as usize] += 1;
-                random.up_to(5000)
-            }
-        };
-        if compare_list(file, room).is_err() && answer.is_ok() {
-            self.refused[refusal::OUTPUT_SHORT as usize] += 1;
-        }
-    }
-}
-
-impl fmt::Display for Tally {
-    fn fmt(&self, f: &mut fmt::Formatter<'_>) -> fmt::Result {
-        write!(f, "{} files: {} passed", self.files, self.passed)?;
-        for (number, count) in self.refused.iter().enumerate().filter(|(_, n)| **n > 0) {
-            write!(f, ", {count} refused {number}")?;
-        }
-        Ok(())
+/// Holds the two programs against each other on one file.
+fn compare(tally: &mut Tally, random: &mut Random, file: &[u8]) {
+    let answer = second_check(file);
+    assert_eq!(dwarnizza::index::check(file), answer);
+    tally.add(&answer);
+    let room = match answer {
+        Ok(summary) => room(random, list_len(summary)),
+        Err(_) => random.up_to(5000),
+    };
+    if compare_list(file, room).is_err() && answer.is_ok() {
+        tally.add_refusal(refusal::OUTPUT_SHORT);
     }
 }
 
 /// Good files and files with random faults of every kind.
 #[test]
 fn a_hundred_thousand_files() {
-    const FILES: u64 = 120_000;
-    const FROM_EACH: usize = 12;
-
-    let mut random = Random::new();
-    let mut tally = Tally::default();
-    while tally.files < FILES {
-        let good = IndexFile::random_layout(&mut random);
-        for _ in 0..FROM_EACH {
-            let (kind, file) = spoil(&mut random, &good);
-            let _context = Context {
-                number: tally.files,
-                kind,
-            };
-            tally.compare(&mut random, &file);
-        }
-    }
-    println!("{tally}");
-    for number in (1..=9).chain([13]) {
-        assert!(
-            tally.refused[number] > 0,
-            "no file was refused with {number}"
-        );
-    }
+    let mut tally = Tally::new("files");
+    for_spoilt_files(120_000, |random, file| compare(&mut tally, random, file));
+    tally.print((1..=9).chain([13]));
 }

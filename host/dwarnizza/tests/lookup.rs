@@ -7,7 +7,7 @@ mod random;
 
 use std::fmt;
 
-use compare::{Context, in_library_terms};
+use compare::{Context, in_library_terms, refusal_at};
 use dwarnizza::index::{Entry, Lookup, Page, Slot, bound, lookup};
 use dwarnizza::{Refusal, refusal};
 use forge::{
@@ -26,11 +26,7 @@ fn absent(compared: u32) -> Answer {
 
 /// The refusals of a lookup name no place.
 fn refused(number: u32) -> Refusal {
-    Refusal {
-        number,
-        place: 0,
-        link: None,
-    }
+    refusal_at(number, 0)
 }
 
 fn in_library_entry(found: Found, compared: u32) -> Entry {

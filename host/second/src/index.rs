@@ -2,10 +2,12 @@
 
 mod check;
 mod footer;
+mod listing;
 mod lookup;
 mod write;
 
 pub use check::{check, list};
+pub use listing::{MOST_LISTED, listing};
 pub use lookup::{Found, Lookup, bound, lookup};
 pub use write::write;
 

@@ -6,6 +6,7 @@
 #![forbid(unsafe_code)]
 
 pub mod index;
+pub mod key;
 pub mod md5;
 pub mod md5_suite;
 pub mod refusal;

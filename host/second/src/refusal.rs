@@ -69,3 +69,14 @@ pub const OUTPUT_TOO_SHORT: Refusal = refusal(13);
 
 /// More than 2^48 bytes hashed.
 pub const TOO_MUCH_HASHED: Refusal = refusal(50);
+
+/// Key text not 2K characters.
+pub const KEY_TEXT_LENGTH: Refusal = refusal(60);
+
+/// Not a hex digit.
+pub fn hex_digit(digit: usize) -> Refusal {
+    refusal_at(61, digit)
+}
+
+/// Listing input above 65,536 bytes.
+pub const LISTING_INPUT: Refusal = refusal(70);

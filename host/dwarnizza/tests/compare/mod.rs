@@ -1,15 +1,133 @@
 //! The two programs beside each other.
 
+#![allow(dead_code)] // Each test uses a part of it.
+
+use std::fmt::{self, Debug};
 use std::thread;
 
 use dwarnizza::Refusal;
+use dwarnizza::index::Settings;
+
+use crate::random::Random;
+
+/// A refusal outside a chain.
+pub fn refusal_at(number: u32, place: usize) -> Refusal {
+    Refusal {
+        number,
+        place: place as u64,
+        link: None,
+    }
+}
 
 /// A refusal of the second program as the library has it.
 pub fn in_library_terms(refusal: second::refusal::Refusal) -> Refusal {
-    Refusal {
-        number: refusal.number,
-        place: refusal.place,
-        link: None,
+    refusal_at(refusal.number, refusal.place as usize)
+}
+
+/// Settings of the second program as the library has them.
+pub fn in_library_settings(settings: second::index::Settings) -> Settings {
+    let second::index::Settings {
+        version,
+        offset_width,
+        key_length,
+    } = settings;
+    Settings {
+        version,
+        offset_width,
+        key_length,
+    }
+}
+
+/// What an output holds before a call.
+fn unwritten(room: usize) -> Vec<u8> {
+    (0..room).map(|i| (i * 7 + 3) as u8).collect()
+}
+
+/// What the library writes into an output of this size, after seeing that both programs give the
+/// same answer and leave the same bytes. An answer is how many bytes were written.
+#[track_caller]
+pub fn compare_outputs<E: Debug + PartialEq>(
+    room: usize,
+    library: impl FnOnce(&mut [u8]) -> Result<usize, E>,
+    second: impl FnOnce(&mut [u8]) -> Result<usize, E>,
+) -> Result<Vec<u8>, E> {
+    let before = unwritten(room);
+    let (mut by_library, mut by_second) = (before.clone(), before.clone());
+    let expected = second(&mut by_second);
+    assert_eq!(library(&mut by_library), expected);
+    let written = *expected.as_ref().unwrap_or(&0);
+    assert!(
+        by_library[..written] == by_second[..written],
+        "the outputs differ"
+    );
+    assert!(
+        by_library[written..] == before[written..] && by_second[written..] == before[written..],
+        "a byte past the answer was written"
+    );
+    by_library.truncate(written);
+    expected.map(|_| by_library)
+}
+
+/// An output's size, for an answer of this length: as long, too short, longer, or any.
+pub fn room(random: &mut Random, length: usize) -> usize {
+    match random.up_to(3) {
+        0 => length,
+        1 => length.saturating_sub(1),
+        2 => length + 1 + random.up_to(500),
+        _ => random.up_to(length),
+    }
+}
+
+/// How often each answer was given.
+pub struct Tally {
+    /// What is counted.
+    cases: &'static str,
+    pub count: u64,
+    passed: u64,
+    refused: [u64; 71],
+}
+
+impl Tally {
+    pub fn new(cases: &'static str) -> Self {
+        Self {
+            cases,
+            count: 0,
+            passed: 0,
+            refused: [0; 71],
+        }
+    }
+
+    pub fn add<T>(&mut self, answer: &Result<T, Refusal>) {
+        self.count += 1;
+        match answer {
+            Ok(_) => self.passed += 1,
+            Err(refusal) => self.add_refusal(refusal.number),
+        }
+    }
+
+    /// A further refusal of the same case.
+    pub fn add_refusal(&mut self, number: u32) {
+        self.refused[number as usize] += 1;
+    }
+
+    /// Prints the counts, after seeing that some passed and each of these numbers was met.
+    #[track_caller]
+    pub fn print(&self, numbers: impl IntoIterator<Item = usize>) {
+        println!("{self}");
+        assert!(self.passed > 0, "none passed");
+        for number in numbers {
+            assert!(self.refused[number] > 0, "none was refused with {number}");
+        }
+    }
+}
+
+impl fmt::Display for Tally {
+    fn fmt(&self, f: &mut fmt::Formatter<'_>) -> fmt::Result {
+        write!(f, "{} {}: {} passed", self.count, self.cases, self.passed)?;
+        for (number, count) in self.refused.iter().enumerate().filter(|(_, n)| **n > 0) {
+            write!(f, ", {count} refused {number}")?;
+        }
+        Ok(())
     }
 }
 

@@ -1,8 +1,10 @@
 //! Archive indexes for tests: good ones, and ones with chosen faults.
 
+#![allow(dead_code, unused_imports)] // Each test uses a part of it.
+
 mod spoil;
 
-pub use spoil::spoil;
+pub use spoil::{for_spoilt_files, spoil};
 
 use std::ops::Range;
 
@@ -81,25 +83,8 @@ impl IndexFile {
 
     /// A good file of any settings, mostly of few pages.
     pub fn random_layout(random: &mut Random) -> Self {
-        let settings = Settings {
-            version: random.up_to(1) as u8,
-            offset_width: 4 + random.up_to(2) as u8,
-            key_length: 1 + random.up_to(15) as u8,
-        };
-        let full = settings.entries_per_page();
-        let entries = match random.up_to(9) {
-            0 => 0,
-            1 => 1,
-            2 => full - 1,
-            3 => full,
-            4 => full + 1,
-            5 => 2 * full,
-            6 => 2 * full + 1,
-            7 => 1 + random.up_to(9),
-            8 => random.up_to(full),
-            _ => random.up_to(4 * full),
-        };
-        Self::random(random, settings, entries.min(keys(settings)))
+        let (settings, entries) = random_layout(random);
+        Self::random(random, settings, entries)
     }
 
     pub fn pages(&self) -> usize {
@@ -227,6 +212,29 @@ pub enum Fault {
     LastKey(usize),
 }
 
+/// Any settings, and how many entries: mostly few pages of them.
+pub fn random_layout(random: &mut Random) -> (Settings, usize) {
+    let settings = Settings {
+        version: random.up_to(1) as u8,
+        offset_width: 4 + random.up_to(2) as u8,
+        key_length: 1 + random.up_to(15) as u8,
+    };
+    let full = settings.entries_per_page();
+    let entries = match random.up_to(9) {
+        0 => 0,
+        1 => 1,
+        2 => full - 1,
+        3 => full,
+        4 => full + 1,
+        5 => 2 * full,
+        6 => 2 * full + 1,
+        7 => 1 + random.up_to(9),
+        8 => random.up_to(full),
+        _ => random.up_to(4 * full),
+    };
+    (settings, entries.min(keys(settings)))
+}
+
 /// A list whose keys count from 0, with sizes and locations that fall.
 pub fn counted_list(settings: Settings, entries: usize) -> Vec<u8> {
     let mut list = Vec::new();
@@ -296,7 +304,7 @@ fn wide_up_to(random: &mut Random, most: u128) -> u128 {
 }
 
 /// The key before this one; the lowest stays.
-fn count_down(key: &mut [u8]) {
+pub fn count_down(key: &mut [u8]) {
     if let Some(last) = key.iter().rposition(|&byte| byte != 0) {
         key[last] -= 1;
         key[last + 1..].fill(0xff);

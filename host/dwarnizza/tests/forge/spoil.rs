@@ -3,6 +3,7 @@
 use second::index::{FOOTER, MOST_ENTRIES, PAGE};
 
 use super::{FOOTER_HASH, Fault, HASH_LENGTH, IndexFile, VERSION, flip};
+use crate::compare::Context;
 use crate::random::Random;
 
 /// The name of a kind, and what makes a file of it from a good one.
@@ -30,6 +31,21 @@ const KINDS: [Kind; 15] = [
 pub fn spoil(random: &mut Random, good: &IndexFile) -> (&'static str, Vec<u8>) {
     let (name, make) = KINDS[random.up_to(KINDS.len() - 1)];
     (name, make(random, good.clone()))
+}
+
+/// Goes through so many files of random kinds, some from each good one.
+pub fn for_spoilt_files(files: u64, mut each: impl FnMut(&mut Random, &[u8])) {
+    const FROM_EACH: u64 = 12;
+
+    let mut random = Random::new();
+    for first in (0..files).step_by(FROM_EACH as usize) {
+        let good = IndexFile::random_layout(&mut random);
+        for number in first..first + FROM_EACH {
+            let (kind, file) = spoil(&mut random, &good);
+            let _context = Context { number, kind };
+            each(&mut random, &file);
+        }
+    }
 }
 
 fn good(_: &mut Random, file: IndexFile) -> Vec<u8> {

@@ -1,5 +1,7 @@
 //! A small generator of random numbers, so that a failing test can be run again.
 
+#![allow(dead_code)] // Each test uses a part of it.
+
 use std::env;
 
 /// splitmix64.

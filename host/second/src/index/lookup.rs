@@ -109,7 +109,7 @@ fn first_not_below(keys: usize, mut is_below: impl FnMut(usize) -> bool) -> usiz
     start
 }
 
-fn big_endian(bytes: &[u8]) -> u64 {
+pub fn big_endian(bytes: &[u8]) -> u64 {
     bytes
         .iter()
         .fold(0, |number, &byte| number << 8 | u64::from(byte))

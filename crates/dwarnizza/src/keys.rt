@@ -1,0 +1,35 @@
+// Keys.
+use crate::answer::refused;
+use field::copy;
+use field::part;
+use refusal::Verdict;
+ghost use mathlib.Core.Path.{_≡_};
+ghost use Rattle.refusal.specs.Output.{filled};
+ghost use Rattle.key.specs.Text.{textCheck, textBytes};
+ghost use Rattle.dwarnizza.specs.Answer.{result, wordsOf};
+ghost use Rattle.dwarnizza.specs.Keys.{textOutcome};
+
+// The key of `length` bytes that a text tells, in the first bytes of `key`. A refusal leaves the key's bytes.
+#[no_mangle]
+pub extern "C" fn dwarnizza_key_text(
+    text: &[u8],
+    length: u8,
+    key: &mut [u8; 16],
+    answer: &mut [u64; 8],
+) -> u32
+    ensures { λ r. ⌜ r ≡ result (textOutcome (now (text .entry)) length) ⌝ }
+    ensures { λ _. ⌜ now (key .exit) ≡ filled (textCheck (now (text .entry)) length) (textBytes (now (text .entry))) (now (key .entry)) ⌝ }
+    ensures { λ _. ⌜ now (answer .exit) ≡ wordsOf (textOutcome (now (text .entry)) length) ⌝ }
+{
+    let told = key::from_text(text, length);
+    let verdict = told.verdict;
+    let bytes = told.bytes;
+    match verdict {
+        Verdict::Refused(r) => refused(r, answer),
+        Verdict::Passed => {
+            copy(part(&bytes, 0, length as usize), key, 0);
+            *answer = [length as u64, 0, 0, 0, 0, 0, 0, 0];
+            0
+        }
+    }
+}

@@ -1,0 +1,159 @@
+//! Key text: the library against the second program.
+
+mod compare;
+mod random;
+
+use compare::{Tally, in_library_terms, refusal_at};
+use dwarnizza::{Key, Refusal, refusal};
+use random::Random;
+
+/// The key of a text by the library, after seeing that the second program gives the same.
+#[track_caller]
+fn compare(text: &[u8], key_length: u8) -> Result<Vec<u8>, Refusal> {
+    let answer = second::key::from_text(text, key_length).map_err(in_library_terms);
+    let key = Key::from_text(text, key_length);
+    let bytes = key.map(|key| key.as_bytes().to_vec());
+    assert_eq!(bytes, answer, "the text is {}", text.escape_ascii());
+    answer
+}
+
+fn refused(number: u32, place: usize) -> Result<Vec<u8>, Refusal> {
+    Err(refusal_at(number, place))
+}
+
+#[test]
+fn m9() {
+    assert_eq!(compare(b"00", 1), Ok(vec![0]));
+    assert_eq!(compare(b"0", 1), refused(refusal::KEY_TEXT_LENGTH, 0));
+}
+
+/// 00417 is the text of no key, nor is 417; 0417 is one of two bytes.
+#[test]
+fn a_short_key_is_not_padded() {
+    for key_length in 1..=16 {
+        for text in [&b"00417"[..], b"417", b"0417", b"000417"] {
+            let expected = match (text, key_length) {
+                (b"0417", 2) => Ok(vec![4, 0x17]),
+                (b"000417", 3) => Ok(vec![0, 4, 0x17]),
+                _ => refused(refusal::KEY_TEXT_LENGTH, 0),
+            };
+            assert_eq!(compare(text, key_length), expected);
+        }
+    }
+}
+
+/// What a reader of numbers may take besides digits.
+#[test]
+fn nothing_but_digits() {
+    for (text, place) in [
+        (&b"0x41"[..], 1),
+        (b"+417", 0),
+        (b"-417", 0),
+        (b" 417", 0),
+        (b"417 ", 3),
+        (b"41\n7", 2),
+        (b"4_17", 1),
+        (b"041g", 3),
+        (b"041G", 3),
+        (b"04h\0", 2),
+        ("4é1".as_bytes(), 1),
+        ("１7".as_bytes(), 0),
+    ] {
+        assert_eq!(compare(text, 2), refused(refusal::HEX_DIGIT, place));
+    }
+}
+
+/// All texts of two characters.
+#[test]
+fn every_byte() {
+    let mut tally = Tally::new("texts of two characters");
+    for text in (0..=u16::MAX).map(u16::to_be_bytes) {
+        tally.add(&compare(&text, 1));
+    }
+    tally.print([61]);
+}
+
+/// All characters at each place of a text, for each key length.
+#[test]
+fn every_character_at_every_place() {
+    let mut random = Random::new();
+    let mut tally = Tally::new("texts with a chosen character");
+    for key_length in 1..=16 {
+        let length = 2 * usize::from(key_length);
+        for place in 0..length {
+            for character in 0..=u8::MAX {
+                let mut text = digits(&mut random, length);
+                text[place] = character;
+                let answer = compare(&text, key_length);
+                if !character.is_ascii_hexdigit() {
+                    assert_eq!(answer, refused(refusal::HEX_DIGIT, place));
+                }
+                tally.add(&answer);
+            }
+        }
+    }
+    tally.print([61]);
+}
+
+/// All lengths of a text up to 40 for all key lengths: 11, then 60, whatever the characters.
+#[test]
+fn every_length() {
+    let mut random = Random::new();
+    let mut tally = Tally::new("texts of each length");
+    for key_length in 0..=u8::MAX {
+        for length in 0..=40 {
+            let text = digits(&mut random, length);
+            let answer = compare(&text, key_length);
+            let expected = if !(1..=16).contains(&key_length) {
+                Some(refusal::SETTINGS)
+            } else if length != 2 * usize::from(key_length) {
+                Some(refusal::KEY_TEXT_LENGTH)
+            } else {
+                None
+            };
+            tally.add(&answer);
+            assert_eq!(answer.err().map(|refusal| refusal.number), expected);
+            if expected.is_some() {
+                let bad = vec![b'g'; length];
+                let answer = compare(&bad, key_length);
+                tally.add(&answer);
+                assert_eq!(answer.err().map(|refusal| refusal.number), expected);
+            }
+        }
+    }
+    tally.print([11, 60]);
+}
+
+#[test]
+fn a_hundred_thousand_texts() {
+    const TEXTS: u64 = 100_000;
+
+    let mut random = Random::new();
+    let mut tally = Tally::new("random texts");
+    while tally.count < TEXTS {
+        let key_length = random.up_to(17) as u8;
+        let mut length = 2 * usize::from(key_length);
+        if random.up_to(3) == 0 {
+            length = random.up_to(40);
+        }
+        let mut text = digits(&mut random, length);
+        for _ in 0..random.up_to(2).min(length) {
+            let place = random.up_to(length - 1);
+            // Characters beside the digits are the likeliest to be taken for one.
+            text[place] = match random.up_to(1) {
+                0 => b"/:@G`g"[random.up_to(5)],
+                _ => random.word() as u8,
+            };
+        }
+        tally.add(&compare(&text, key_length));
+    }
+    tally.print([11, 60, 61]);
+}
+
+/// So many hex digits of either case.
+fn digits(random: &mut Random, length: usize) -> Vec<u8> {
+    let digits = b"0123456789abcdefABCDEF";
+    (0..length)
+        .map(|_| digits[random.up_to(digits.len() - 1)])
+        .collect()
+}

@@ -1,0 +1,331 @@
+//! The writer of archive indexes: the library against the second program, and what is written
+//! against the full check and the list.
+
+mod compare;
+mod forge;
+mod random;
+
+use compare::{
+    Context, Tally, compare_outputs, in_library_settings, in_library_terms, refusal_at, room,
+};
+use dwarnizza::index::{Summary, check, list};
+use dwarnizza::{Refusal, refusal};
+use forge::{
+    IndexFile, VERSION, all_settings, count_down, counted_list, flip, keys, neighbour_lists,
+    random_layout, random_list, settings,
+};
+use random::Random;
+use second::index::{FOOTER, MOST_ENTRIES, Settings};
+
+/// The file by the library in an output of this size, compared with the second program's.
+#[track_caller]
+fn compare(settings: Settings, list: &[u8], room: usize) -> Result<Vec<u8>, Refusal> {
+    compare_outputs(
+        room,
+        |output| dwarnizza::index::write(in_library_settings(settings), list, output),
+        |output| second::index::write(settings, list, output).map_err(in_library_terms),
+    )
+}
+
+/// The file of a list that may be written, in outputs of all kinds.
+#[track_caller]
+fn written(settings: Settings, list: &[u8]) -> Vec<u8> {
+    let entries = list.len() / settings.entry_len();
+    let length = in_library_settings(settings).index_len(entries);
+    let short = refusal_at(refusal::OUTPUT_SHORT, 0);
+    assert_eq!(compare(settings, list, length - 1), Err(short));
+    let file = compare(settings, list, length).expect("the list may be written");
+    assert_eq!(file.len(), length);
+    assert!(compare(settings, list, length + 1000).as_ref() == Ok(&file));
+    file
+}
+
+/// Both programs refuse the list so, whatever the output.
+#[track_caller]
+fn expect_refused(settings: Settings, list: &[u8], number: u32, place: usize) {
+    for room in [0, FOOTER, 3 * list.len() + 10_000] {
+        let answer = compare(settings, list, room);
+        assert_eq!(answer, Err(refusal_at(number, place)));
+    }
+}
+
+/// The list of a file that passes the full check, and what the full check says of it.
+#[track_caller]
+fn read_back(file: &[u8]) -> (Summary, Vec<u8>) {
+    let summary = check(file).expect("the file is good");
+    let mut output = vec![0; file.len()];
+    let length = list(file, &mut output).expect("the file is good");
+    output.truncate(length);
+    (summary, output)
+}
+
+/// What is written is the file of the layout, and gives list and settings back.
+#[track_caller]
+fn round_trip(settings: Settings, list: &[u8], file: &[u8]) {
+    let entries = list.len() / settings.entry_len();
+    let (summary, listed) = read_back(file);
+    assert_eq!(summary.settings, in_library_settings(settings));
+    assert_eq!(summary.entries, entries);
+    assert_eq!(summary.pages, settings.pages(entries));
+    assert!(listed == list, "another list comes back");
+    assert!(
+        file == IndexFile::new(settings, list).bytes,
+        "another file is written"
+    );
+}
+
+/// The list of a good file with any contents hash, written again, gives the same file but for that
+/// hash.
+#[track_caller]
+fn round_trip_of_file(random: &mut Random, good: &IndexFile) {
+    let mut other = good.clone();
+    other.footer()[..VERSION].copy_from_slice(&random.array::<VERSION>());
+    let (summary, listed) = read_back(&other.bytes);
+    let mut again = vec![0; other.bytes.len()];
+    let length = dwarnizza::index::write(summary.settings, &listed, &mut again);
+    assert_eq!(length, Ok(again.len()));
+    let contents_hash = again.len() - FOOTER..again.len() - FOOTER + VERSION;
+    assert!(again[..contents_hash.start] == other.bytes[..contents_hash.start]);
+    assert!(again[contents_hash.end..] == other.bytes[contents_hash.end..]);
+    assert!(again[contents_hash.clone()] == good.bytes[contents_hash]);
+}
+
+#[test]
+fn round_trips_of_every_layout() {
+    let mut random = Random::new();
+    let mut files = 0;
+    for settings in all_settings() {
+        let full = settings.entries_per_page();
+        let mut counts = vec![0, 1, 2, full - 1, full, full + 1, 2 * full, 5 * full + 7];
+        counts.extend((0..12).map(|_| random.up_to(3 * full)));
+        for entries in counts.into_iter().filter(|&n| n <= keys(settings)) {
+            for version in 0..=1 {
+                let settings = Settings {
+                    version,
+                    ..settings
+                };
+                let list = random_list(&mut random, settings, entries);
+                round_trip(settings, &list, &written(settings, &list));
+                round_trip_of_file(&mut random, &IndexFile::new(settings, &list));
+                files += 1;
+            }
+        }
+    }
+    println!("{files} round trips");
+}
+
+#[test]
+fn the_zero_key_is_a_key() {
+    for settings in all_settings() {
+        let list = counted_list(settings, 3);
+        round_trip(settings, &list, &written(settings, &list));
+        let zeros = vec![0; 3 * settings.entry_len()];
+        expect_refused(settings, &zeros, refusal::INDEX_ORDER, 1);
+    }
+}
+
+/// All values of each setting, with a list of no entries and with one that is not whole.
+#[test]
+fn every_setting() {
+    let with = |version, offset_width, key_length| Settings {
+        version,
+        offset_width,
+        key_length,
+    };
+    for value in 0..=u8::MAX {
+        for (settings, allowed) in [
+            (with(value, 4, 16), value <= 1),
+            (with(1, value, 16), (4..=6).contains(&value)),
+            (with(1, 4, value), (1..=16).contains(&value)),
+        ] {
+            if allowed {
+                round_trip(settings, &[], &written(settings, &[]));
+                expect_refused(settings, &[0], refusal::LIST_LENGTH, 0);
+            } else {
+                expect_refused(settings, &[], refusal::SETTINGS, 0);
+                expect_refused(settings, &[0], refusal::SETTINGS, 0);
+            }
+        }
+    }
+}
+
+/// Every length up to some entries.
+#[test]
+fn lists_that_are_not_whole() {
+    for settings in all_settings() {
+        let list = counted_list(settings, 5);
+        for length in 0..list.len() {
+            if length.is_multiple_of(settings.entry_len()) {
+                written(settings, &list[..length]);
+            } else {
+                expect_refused(settings, &list[..length], refusal::LIST_LENGTH, 0);
+            }
+        }
+    }
+}
+
+/// Two neighbours that differ in one byte only, at each place of the key, as unsigned bytes.
+#[test]
+fn keys_are_compared_whole_and_unsigned() {
+    for settings in all_settings() {
+        for mut list in neighbour_lists(settings) {
+            round_trip(settings, &list, &written(settings, &list));
+            let (one, other) = list.split_at_mut(settings.entry_len());
+            one.swap_with_slice(other);
+            expect_refused(settings, &list, refusal::INDEX_ORDER, 1);
+        }
+    }
+}
+
+/// Each entry of three pages with the key of the one before or a lower one, alone and with others
+/// after it.
+#[test]
+fn the_first_entry_out_of_order() {
+    let mut random = Random::new();
+    for settings in [settings(16, 4), settings(2, 5), settings(9, 6)] {
+        let entries = 2 * settings.entries_per_page() + 20;
+        let good = random_list(&mut random, settings, entries);
+        for first in 1..entries {
+            let mut list = good.clone();
+            put_out_of_order(&mut random, settings, &mut list, first);
+            if first % 3 == 0 {
+                let later = first + random.up_to(entries - 1 - first);
+                put_out_of_order(&mut random, settings, &mut list, later);
+            }
+            let room = [0, settings.file_len(entries)][random.up_to(1)];
+            let refused = refusal_at(refusal::INDEX_ORDER, first);
+            assert_eq!(compare(settings, &list, room), Err(refused));
+        }
+    }
+}
+
+/// Gives an entry, not the first, the key of the one before, or now and then the next lower one.
+fn put_out_of_order(random: &mut Random, settings: Settings, list: &mut [u8], entry: usize) {
+    let start = entry * settings.entry_len();
+    let (before, at) = list.split_at_mut(start);
+    let key = &mut at[..settings.key_len()];
+    key.copy_from_slice(&before[start - settings.entry_len()..][..settings.key_len()]);
+    if random.up_to(1) == 0 {
+        count_down(key);
+    }
+}
+
+/// The faults of what is to be written, in the order of their refusals.
+const FAULTS: [u32; 5] = [
+    refusal::SETTINGS,
+    refusal::LIST_LENGTH,
+    refusal::ENTRY_COUNT,
+    refusal::INDEX_ORDER,
+    refusal::OUTPUT_SHORT,
+];
+
+/// Each set of faults, so each two of them too: the first in order is told.
+#[test]
+fn the_order_of_refusals() {
+    // Of three bytes there are enough keys for too many entries.
+    let good = settings(3, 4);
+    let mut list = counted_list(good, MOST_ENTRIES + 2);
+    let second_key = list[good.entry_len()..][..good.key_len()].to_vec();
+    for set in 0..1 << FAULTS.len() {
+        let has = |number: u32| {
+            let turn = FAULTS.iter().position(|&fault| fault == number);
+            set >> turn.expect("this is one of them") & 1 == 1
+        };
+        let settings = Settings {
+            version: if has(refusal::SETTINGS) { 2 } else { 1 },
+            ..good
+        };
+        let entries = if has(refusal::ENTRY_COUNT) {
+            MOST_ENTRIES + 1
+        } else {
+            3
+        };
+        let length = entries * good.entry_len() + usize::from(has(refusal::LIST_LENGTH));
+        let key = &mut list[good.entry_len()..][..good.key_len()];
+        match has(refusal::INDEX_ORDER) {
+            true => key.fill(0),
+            false => key.copy_from_slice(&second_key),
+        }
+        let room = match has(refusal::OUTPUT_SHORT) {
+            true => good.file_len(3) - 1,
+            false => good.file_len(entries),
+        };
+        let answer = compare(settings, &list[..length], room);
+        let expected = FAULTS.into_iter().find(|&number| has(number));
+        assert_eq!(answer.err().map(|refusal| refusal.number), expected);
+    }
+}
+
+/// As many entries as an index may have.
+#[test]
+fn the_limit_of_entries() {
+    let settings = settings(3, 4);
+    let list = counted_list(settings, MOST_ENTRIES);
+    let file = compare(settings, &list, settings.file_len(MOST_ENTRIES));
+    let (summary, listed) = read_back(&file.expect("so many may be written"));
+    assert_eq!(summary.entries, MOST_ENTRIES);
+    assert!(listed == list, "another list comes back");
+}
+
+/// What is put into a list or its settings, mostly one fault or none.
+fn spoil(random: &mut Random, settings: &mut Settings, list: &mut Vec<u8>) -> &'static str {
+    let good = *settings;
+    let mut kind = "good";
+    if random.up_to(5) == 0 {
+        kind = "settings";
+        let most = [20, 255][random.up_to(1)];
+        let value = random.up_to(most) as u8;
+        match random.up_to(2) {
+            0 => settings.version = value,
+            1 => settings.offset_width = value,
+            _ => settings.key_length = value,
+        }
+    }
+    if random.up_to(3) == 0 && list.len() > good.entry_len() {
+        kind = "an entry out of order";
+        let entry = 1 + random.up_to(list.len() / good.entry_len() - 2);
+        put_out_of_order(random, good, list, entry);
+    }
+    if random.up_to(7) == 0 && !list.is_empty() {
+        kind = "bytes flipped";
+        flip(random, list);
+    }
+    if random.up_to(7) == 0 {
+        kind = "another length";
+        list.resize(list.len() + random.up_to(20), 0xff);
+        list.truncate(list.len().saturating_sub(random.up_to(20)));
+    }
+    kind
+}
+
+/// Good lists and lists with random faults of every kind. What is written gives list and settings
+/// back.
+#[test]
+fn a_hundred_thousand_lists() {
+    const LISTS: u64 = 100_000;
+    const FROM_EACH: usize = 8;
+
+    let mut random = Random::new();
+    let mut tally = Tally::new("lists");
+    while tally.count < LISTS {
+        let (good, entries) = random_layout(&mut random);
+        let good_list = random_list(&mut random, good, entries);
+        for _ in 0..FROM_EACH {
+            let (mut settings, mut list) = (good, good_list.clone());
+            let kind = spoil(&mut random, &mut settings, &mut list);
+            let _context = Context {
+                number: tally.count,
+                kind,
+            };
+            let room = room(&mut random, good.file_len(entries));
+            let answer = compare(settings, &list, room);
+            tally.add(&answer);
+            if let Ok(file) = answer {
+                let (summary, listed) = read_back(&file);
+                assert_eq!(summary.settings, in_library_settings(settings));
+                assert!(listed == list, "another list comes back");
+            }
+        }
+    }
+    tally.print([8, 11, 12, 13]);
+}

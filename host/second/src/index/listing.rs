@@ -1,0 +1,66 @@
+//! The listing.
+
+use std::fmt::{self, Write};
+
+use super::lookup::big_endian;
+use super::{Index, SIZE_WIDTH, Settings, check};
+use crate::refusal::{self, Refusal};
+
+/// The most bytes of input that are listed.
+pub const MOST_LISTED: usize = 65_536;
+
+/// The listing of an index, or in its place the line of a refusal: 70, then as the full check
+/// refuses.
+pub fn listing(input: &[u8]) -> String {
+    let checked = if input.len() > MOST_LISTED {
+        Err(refusal::LISTING_INPUT)
+    } else {
+        check(input)
+    };
+    match checked {
+        Ok(index) => lines(&index),
+        Err(refusal) => refusal_line(refusal),
+    }
+}
+
+/// Of these refusals, 6 to 9 have a place.
+fn refusal_line(Refusal { number, place }: Refusal) -> String {
+    match number {
+        6..=9 => format!("refused {number} at {place}\n"),
+        _ => format!("refused {number}\n"),
+    }
+}
+
+fn lines(index: &Index) -> String {
+    let settings = index.settings();
+    let mut lines = format!(
+        "index key={} offset={} entries={} pages={}\n",
+        settings.key_length,
+        settings.offset_width,
+        index.entries(),
+        index.pages()
+    );
+    for page in 0..index.pages() {
+        let (entries, _) = index.split_page(page);
+        for entry in entries.chunks_exact(settings.entry_len()) {
+            push_entry(settings, entry, &mut lines).expect("a string takes every line");
+        }
+    }
+    lines
+}
+
+/// Key, size, archive number and offset; a dash where there is no archive number.
+fn push_entry(settings: Settings, entry: &[u8], lines: &mut String) -> fmt::Result {
+    let (key, rest) = entry.split_at(settings.key_len());
+    let (size, location) = rest.split_at(SIZE_WIDTH);
+    for byte in key {
+        write!(lines, "{byte:02x}")?;
+    }
+    write!(lines, " {} ", big_endian(size))?;
+    if settings.offset_width == 6 {
+        let (archive, offset) = location.split_at(2);
+        writeln!(lines, "{} {}", big_endian(archive), big_endian(offset))
+    } else {
+        writeln!(lines, "- {}", big_endian(location))
+    }
+}
