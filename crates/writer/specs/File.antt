@@ -1,11 +1,11 @@
 -- The file that is written from a list of entries: document 01, "Archive index".
 use mathlib.Core.List.{List, _∷_, _++_}
 use Prim.Native.Nat.{ℕ, _+_, _-_, _*_}
-use lib.ListN.{length, take, replicate}
-use Rattle.field.specs.Part.{partAt, partsFrom, overlay}
+use lib.ListN.{take, replicate}
+use Rattle.field.specs.Part.{partAt, partsFrom}
 use Rattle.md5.specs.Message.{md5, littleBytes}
 use Rattle.index.specs.declared.layout.Layout.{Layout}
-use Rattle.index.specs.Layout.{entrySize, full, onPage, layoutOf}
+use Rattle.index.specs.Layout.{entrySize, full, onPage}
 
 -- The entries of page p, which follow those of the full pages before it.
 abbrev pub entriesIn : List ℕ → Layout → ℕ → List ℕ
@@ -47,11 +47,3 @@ footerWith l contents = take 8 (md5 contents) ++ fields l ++ take 8 (md5 (fields
 unfoldable pub fileOf : List ℕ → Layout → List ℕ
 fileOf list l =
     pages list l ++ lastKeys list l ++ pageHashes list l ++ footerWith l (lastKeys list l ++ pageHashes list l)
-
--- What the writer puts as the contents hash of an index: the first eight bytes of the hash of its last keys and page hashes.
-abbrev pub contentsHashOf : List ℕ → List ℕ
-contentsHashOf s = take 8 (md5 (partAt s (layoutOf s .pages * 4096) (layoutOf s .pages * (layoutOf s .key + 8))))
-
--- An index with other bytes in place of its contents hash, the first eight of the footer.
-abbrev pub withContentsHash : List ℕ → List ℕ → List ℕ
-withContentsHash s hash = overlay s (length s - 28) hash

@@ -10,18 +10,19 @@ use Rattle.refusal.specs.Check.{Check, refusedIf, first, firstFrom}
 use Rattle.refusal.specs.Outcome.{Outcome, answered, refusal, after}
 use Rattle.refusal.specs.Number.{settings, list-length, entry-count, index-order, output-short}
 use Rattle.index.specs.declared.layout.Layout.{Layout}
+use Rattle.index.specs.Layout as layout
 use Rattle.index.specs.Layout.{indexLength, layoutWith}
 use Rattle.writer.specs.declared.Settings.{Settings}
 use Rattle.writer.specs.declared.Written.{Written}
 use Rattle.writer.specs.declared.Written.the-variants.{File, Refused}
 
--- The settings of an index: version, W and K.
-unfoldable pub settingsOf : Layout → Settings
-settingsOf l = record { version = l .version; offset = l .offset; key = l .key }
+-- The layout of an index with these settings and n entries.
+abbrev pub layoutOver : Settings → ℕ → Layout
+layoutOver s n = layoutWith (s .version) (s .offset) (s .key) n
 
--- The bytes of an entry.
+-- The bytes of an entry, however many there are.
 unfoldable pub entrySize : Settings → ℕ
-entrySize s = s .key + 4 + s .offset
+entrySize s = layout.entrySize (layoutOver s 0)
 
 -- How many entries a list has.
 unfoldable pub entryCount : Settings → List ℕ → ℕ
@@ -29,7 +30,7 @@ entryCount s list = length list / entrySize s
 
 -- The layout of the file.
 unfoldable pub layoutFor : Settings → List ℕ → Layout
-layoutFor s list = layoutWith (s .version) (s .offset) (s .key) (entryCount s list)
+layoutFor s list = layoutOver s (entryCount s list)
 
 -- 11: version is 0 or 1, W 4, 5 or 6, K 1 to 16.
 unfoldable pub within : (x low high : ℕ) → Bool

@@ -62,8 +62,10 @@ fn judge(settings: Settings, list: &[u8], room: usize) -> Checked
     if !settings_right(settings) {
         return refuse(SETTINGS, 0);
     }
+    let version = settings.version;
+    let offset = settings.offset;
     let key = settings.key;
-    let size = key as usize + 4 + settings.offset as usize;
+    let size = Layout::new(version, offset, key, 0).entry_size();
     if list.len() % size != 0 {
         return refuse(LIST_LENGTH, 0);
     }
@@ -76,7 +78,7 @@ fn judge(settings: Settings, list: &[u8], room: usize) -> Checked
     if fall < count {
         return refuse(INDEX_ORDER, fall as usize);
     }
-    let l = Layout::new(settings.version, settings.offset, key, count);
+    let l = Layout::new(version, offset, key, count);
     if room < l.length() {
         return refuse(OUTPUT_SHORT, 0);
     }

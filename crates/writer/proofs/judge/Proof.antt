@@ -1,10 +1,10 @@
 -- `writer::judge`: each refusal in its turn, then the layout.
 use mathlib.Core.Path.{_≡_, sym, ap, _∙_}
-use native.Mathlib.Omega.{arith}
 use borrow.Author.Tests.{not-true, not-false}
 use Rattle.refusal.specs.Outcome.{answered}
 use Rattle.refusal.proofs.Laws.{after-said, after-quiet}
 use Rattle.index.specs.Check.{told, outcome}
+use Rattle.index.specs.Layout as layout
 use Rattle.index.specs.Layout.{indexLength}
 use Rattle.writer.specs.Write.{entrySize, entryCount, layoutFor}
 use Rattle.writer.proofs.Laws.{judged-11, judged-12, judged-4, judged-8, judged-13, judged-none}
@@ -25,17 +25,11 @@ returns c =
     let t = a .list .now in
     c .refuse .ensures ∙ sym (after-said _ (judged-11 s t (a .room) (sym (c .before .before .settings-right .ensures) ∙ not-true _ (c .before .if1 .taken))))
 
-cast-size : tie.Need-cast-size
-cast-size c = search needs
+new-requires : tie.Need-new-requires
+new-requires c κs = search needs
 
-add-size : tie.Need-add-size
-add-size c = search needs
-
-cast-size-2 : tie.Need-cast-size-2
-cast-size-2 c = search needs
-
-add-size-2 : tie.Need-add-size-2
-add-size-2 c = search needs
+entry-size-requires : tie.Need-entry-size-requires
+entry-size-requires c κs = search needs
 
 rem-if2 : tie.Need-rem-if2
 rem-if2 c = search needs
@@ -46,10 +40,11 @@ refuse-requires-2 c κs = search needs
 returns-2 : tie.Need-returns-2
 unfolding entrySize
 returns-2 c =
-    let a = c .before .before .before .before .before .before .args in
+    let a = c .before .before .before .before .before .before .before .args in
     let s = a .settings in
     let t = a .list .now in
-    c .refuse2 .ensures ∙ sym (after-said _ (judged-12 s t (a .room) (sym (c .before .before .before .before .settings-right .ensures) ∙ not-false _ (c .before .before .before .if1 .left)) (c .before .if2 .taken)))
+    let size : c .before .before .entry-size .result ≡ entrySize s = c .before .before .entry-size .ensures .0 ∙ ap layout.entrySize (c .before .before .before .new .ensures) in
+    c .refuse2 .ensures ∙ sym (after-said _ (judged-12 s t (a .room) (sym (c .before .before .before .before .before .settings-right .ensures) ∙ not-false _ (c .before .before .before .before .if1 .left)) (rw size at (c .before .if2 .taken))))
 
 div-entries : tie.Need-div-entries
 div-entries c = search needs
@@ -60,10 +55,11 @@ refuse-requires-3 c κs = search needs
 returns-3 : tie.Need-returns-3
 unfolding entrySize entryCount
 returns-3 c =
-    let a = c .before .before .before .before .before .before .before .args in
+    let a = c .before .before .before .before .before .before .before .before .args in
     let s = a .settings in
     let t = a .list .now in
-    c .refuse3 .ensures ∙ sym (after-said _ (judged-4 s t (a .room) (sym (c .before .before .before .before .before .settings-right .ensures) ∙ not-false _ (c .before .before .before .before .if1 .left)) (c .before .before .if2 .left) (c .before .if3 .taken)))
+    let size : c .before .before .before .entry-size .result ≡ entrySize s = c .before .before .before .entry-size .ensures .0 ∙ ap layout.entrySize (c .before .before .before .before .new .ensures) in
+    c .refuse3 .ensures ∙ sym (after-said _ (judged-4 s t (a .room) (sym (c .before .before .before .before .before .before .settings-right .ensures) ∙ not-false _ (c .before .before .before .before .before .if1 .left)) (rw size at (c .before .before .if2 .left)) (rw size at (c .before .if3 .taken))))
 
 cast-count : tie.Need-cast-count
 cast-count c = search needs
@@ -83,13 +79,14 @@ refuse-requires-4 c κs = search needs
 returns-4 : tie.Need-returns-4
 unfolding entrySize entryCount
 returns-4 c =
-    let a = c .before .before .before .before .before .before .before .before .before .args in
+    let a = c .before .before .before .before .before .before .before .before .before .before .args in
     let s = a .settings in
     let t = a .list .now in
-    c .refuse4 .ensures ∙ sym (after-said _ (judged-8 s t (a .room) (sym (c .before .before .before .before .before .before .before .settings-right .ensures) ∙ not-false _ (c .before .before .before .before .before .before .if1 .left)) (c .before .before .before .before .if2 .left) (c .before .before .before .if3 .left) (c .before .before .fall .result) (c .before .before .fall .ensures) (c .before .if4 .taken)))
+    let size : c .before .before .before .before .before .entry-size .result ≡ entrySize s = c .before .before .before .before .before .entry-size .ensures .0 ∙ ap layout.entrySize (c .before .before .before .before .before .before .new .ensures) in
+    c .refuse4 .ensures ∙ sym (after-said _ (judged-8 s t (a .room) (sym (c .before .before .before .before .before .before .before .before .settings-right .ensures) ∙ not-false _ (c .before .before .before .before .before .before .before .if1 .left)) (rw size at (c .before .before .before .before .if2 .left)) (rw size at (c .before .before .before .if3 .left)) (c .before .before .fall .result) (rw size at (c .before .before .fall .ensures)) (rw size at (c .before .if4 .taken))))
 
-new-requires : tie.Need-new-requires
-new-requires c κs = search needs
+new-requires-2 : tie.Need-new-requires-2
+new-requires-2 c κs = search needs
 
 length-requires : tie.Need-length-requires
 length-requires c κs = search needs
@@ -100,20 +97,23 @@ refuse-requires-5 c κs = search needs
 returns-5 : tie.Need-returns-5
 unfolding entrySize entryCount layoutFor
 returns-5 c =
-    let a = c .before .before .before .before .before .before .before .before .before .before .before .before .args in
+    let a = c .before .before .before .before .before .before .before .before .before .before .before .before .before .args in
     let s = a .settings in
     let t = a .list .now in
-    let room = c .before .before .length .ensures ∙ ap indexLength (c .before .before .before .new .ensures) in
-    c .refuse5 .ensures ∙ sym (after-said _ (judged-13 s t (a .room) (sym (c .before .before .before .before .before .before .before .before .before .before .settings-right .ensures) ∙ not-false _ (c .before .before .before .before .before .before .before .before .before .if1 .left)) (c .before .before .before .before .before .before .before .if2 .left) (c .before .before .before .before .before .before .if3 .left) (c .before .before .before .before .before .fall .result) (c .before .before .before .before .before .fall .ensures) (c .before .before .before .before .if4 .left) (rw room at (c .before .if5 .taken))))
+    let size : c .before .before .before .before .before .before .before .before .entry-size .result ≡ entrySize s = c .before .before .before .before .before .before .before .before .entry-size .ensures .0 ∙ ap layout.entrySize (c .before .before .before .before .before .before .before .before .before .new .ensures) in
+    let room = c .before .before .length .ensures ∙ ap indexLength (rw size at (c .before .before .before .new2 .ensures)) in
+    c .refuse5 .ensures ∙ sym (after-said _ (judged-13 s t (a .room) (sym (c .before .before .before .before .before .before .before .before .before .before .before .settings-right .ensures) ∙ not-false _ (c .before .before .before .before .before .before .before .before .before .before .if1 .left)) (rw size at (c .before .before .before .before .before .before .before .if2 .left)) (rw size at (c .before .before .before .before .before .before .if3 .left)) (c .before .before .before .before .before .fall .result) (rw size at (c .before .before .before .before .before .fall .ensures)) (rw size at (c .before .before .before .before .if4 .left)) (rw room at (c .before .if5 .taken))))
 
 returns-6 : tie.Need-returns-6
 unfolding entrySize entryCount layoutFor outcome
 returns-6 c =
-    let a = c .before .before .before .before .before .before .before .before .before .before .before .args in
+    let a = c .before .before .before .before .before .before .before .before .before .before .before .before .args in
     let s = a .settings in
     let t = a .list .now in
-    let room = c .before .length .ensures ∙ ap indexLength (c .before .before .new .ensures) in
-    ap (λ l. answered (told l)) (c .before .before .new .ensures) ∙ sym (after-quiet _ (judged-none s t (a .room) (sym (c .before .before .before .before .before .before .before .before .before .settings-right .ensures) ∙ not-false _ (c .before .before .before .before .before .before .before .before .if1 .left)) (c .before .before .before .before .before .before .if2 .left) (c .before .before .before .before .before .if3 .left) (c .before .before .before .before .fall .result) (c .before .before .before .before .fall .ensures) (c .before .before .before .if4 .left) (rw room at (c .if5 .left))))
+    let size : c .before .before .before .before .before .before .before .entry-size .result ≡ entrySize s = c .before .before .before .before .before .before .before .entry-size .ensures .0 ∙ ap layout.entrySize (c .before .before .before .before .before .before .before .before .new .ensures) in
+    let made = rw size at (c .before .before .new2 .ensures) in
+    let room = c .before .length .ensures ∙ ap indexLength made in
+    ap (λ l. answered (told l)) made ∙ sym (after-quiet _ (judged-none s t (a .room) (sym (c .before .before .before .before .before .before .before .before .before .before .settings-right .ensures) ∙ not-false _ (c .before .before .before .before .before .before .before .before .before .if1 .left)) (rw size at (c .before .before .before .before .before .before .if2 .left)) (rw size at (c .before .before .before .before .before .if3 .left)) (c .before .before .before .before .fall .result) (rw size at (c .before .before .before .before .fall .ensures)) (rw size at (c .before .before .before .if4 .left)) (rw room at (c .if5 .left))))
 
 pub judge-spec : {M : Type 1} → statement M
 judge-spec =
@@ -122,10 +122,8 @@ judge-spec =
     settings-right-requires
     refuse-requires
     returns
-    cast-size
-    add-size
-    cast-size-2
-    add-size-2
+    new-requires
+    entry-size-requires
     rem-if2
     refuse-requires-2
     returns-2
@@ -138,7 +136,7 @@ judge-spec =
     cast-refuse
     refuse-requires-4
     returns-4
-    new-requires
+    new-requires-2
     length-requires
     refuse-requires-5
     returns-5

@@ -28,15 +28,16 @@ use Rattle.entries.specs.declared.Listed.{Listed}
 use Rattle.entries.specs.declared.Listed.the-variants.{Written}
 use Rattle.entries.specs.List as list
 use Rattle.entries.specs.List.{listCheck, listOutcome}
 use Rattle.writer.specs.declared.Settings.{Settings}
 use Rattle.writer.specs.declared.Written as written
-use Rattle.writer.specs.File.{fileOf, contentsHashOf, withContentsHash}
+use Rattle.round_trip.specs.Same.{contentsHashOf, withContentsHash, settingsOf}
+use Rattle.writer.specs.File.{fileOf}
 use Rattle.writer.specs.Write as write
-use Rattle.writer.specs.Write.{settingsOf, layoutFor, writeCheck, writeOutcome}
+use Rattle.writer.specs.Write.{layoutFor, writeCheck, writeOutcome}
 use Rattle.writer.proofs.Parts.{file-length}
 use Rattle.writer.proofs.Passed.{passed, held}
-use Rattle.writer.proofs.Back.{layout-back, full-quiet, list-back}
-use Rattle.writer.proofs.Again.{file-again, layout-again, write-silent}
+use Rattle.round_trip.proofs.Back.{layout-back, full-quiet, list-back}
+use Rattle.round_trip.proofs.Again.{file-again, layout-again, write-silent}
 
 -- ---- over the definitions
 

@@ -25,14 +25,14 @@ use Rattle.index.specs.Check.{fieldCheck, fieldsCheck, footerHashCheck, footerC
 use Rattle.index.specs.Entries.{entriesOf, entriesBy, listOf}
 use Rattle.index.proofs.Laws.{on-page-fits, on-page-full}
 use Rattle.index.proofs.Opened.{pages-hold}
 use Rattle.writer.specs.declared.Settings.{Settings}
 use Rattle.writer.specs.File.{entriesIn, pageIn, lastKeyIn, pageHashIn, pages, lastKeys, pageHashes, fields, footerWith, fileOf}
 use Rattle.writer.specs.Write as write
 use Rattle.writer.specs.Write.{layoutFor, entryCount, keyIn, writeCheck}
 use Rattle.writer.specs.Stored.{Held}
 use Rattle.writer.proofs.Parts.{first-eight-length, full-positive, some-on-page, entries-length, page-length, last-key-length, pages-length, last-keys-length, hashes-length, footer-length, file-length, page-there}
-use Rattle.writer.proofs.Paged.{Same, keyOf, key-same, last-same, slot-order}
+use Rattle.round_trip.proofs.Paged.{Same, keyOf, key-same, last-same, slot-order}
 use Rattle.writer.proofs.Passed.{Passed, passed, held}
 
 -- ---- the footer
 module _ (l : Layout) (contents : List ℕ) where

@@ -26,12 +26,13 @@ use Rattle.index.specs.Check.{fieldCheck, fieldsCheck, footerHashCheck, footerC
 use Rattle.index.specs.Entries.{entriesOf, entriesBy, listOf}
 use Rattle.index.proofs.Laws.{on-page-fits}
 use Rattle.index.proofs.Opened.{Opened, opened, field-range, full-positive, entries-held, list-length, entries-length, page-inside, on-page-full}
-use Rattle.writer.specs.File.{entriesIn, pageIn, lastKeyIn, pageHashIn, pages, lastKeys, pageHashes, fields, footerWith, fileOf, contentsHashOf, withContentsHash}
+use Rattle.round_trip.specs.Same.{contentsHashOf, withContentsHash, settingsOf}
+use Rattle.writer.specs.File.{entriesIn, pageIn, lastKeyIn, pageHashIn, pages, lastKeys, pageHashes, fields, footerWith, fileOf}
 use Rattle.writer.specs.Write as write
-use Rattle.writer.specs.Write.{settingsOf, within, settingsRight, entryCount, layoutFor, keyIn, writeCheck}
+use Rattle.writer.specs.Write.{within, settingsRight, entryCount, layoutFor, keyIn, writeCheck}
 use Rattle.writer.specs.Stored.{Held}
 use Rattle.writer.proofs.Parts.{first-eight-length}
-use Rattle.writer.proofs.Paged.{Same, keyOf, key-same, last-same, slot-order}
+use Rattle.round_trip.proofs.Paged.{Same, keyOf, key-same, last-same, slot-order}
 
 fewer : (q p e : ℕ) → q * e < p * e → q < p
 fewer q p e h = go (decLt q p)

@@ -1,0 +1,4 @@
+pub mod Paged
+pub mod Back
+pub mod Again
+pub mod Demand2
