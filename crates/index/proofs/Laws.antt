@@ -153,7 +153,7 @@ module _ (s : List ℕ) (l : Layout) (p : ℕ) where
       let none : n - i ≡ 0 = omega arith in
       ap (firstFrom (orderCheck s l p) i) none ∙ from-none (orderCheck s l p) i
 
-key-within : (l : Layout) → l .key ≤ entrySize l
+pub key-within : (l : Layout) → l .key ≤ entrySize l
 unfolding entrySize
 key-within l = omega arith
 

@@ -1,18 +1,18 @@
 -- An index that passes the full check, listed and written again with its settings, is the same file but for the contents hash.
 use mathlib.Core.Path.{_≡_, refl, sym, ap, ap₂, subst, _∙_}
-use mathlib.Core.Bool.{Bool, true, false, not, _&&_}
+use mathlib.Core.Bool.{true, false, not, _&&_}
 use mathlib.Core.List.{List, [], _∷_, _++_, append-assoc, append-nil}
-use Prim.Native.Nat.{ℕ, zero, suc, _+_, _-_, _*_, _/_, _%_, _≤_, _<_, min}
-use native.Mathlib.Nat.{zero-mul, zero-add, add-zero, add-assoc, add-mul, mul-add, mul-assoc, mul-comm, mul-le-mul-right, div-add-mod', mod-lt, mul-div-cancel, mul-mod-left}
+use Prim.Native.Nat.{ℕ, zero, suc, _+_, _-_, _*_, _/_, _%_, _≤_, _<_}
+use native.Mathlib.Nat.{zero-mul, zero-add, add-assoc, mul-add, mul-le-mul-right, div-add-mod', mod-lt, mul-div-cancel, mul-mod-left}
 use native.Mathlib.Decide.{decLt}
 use native.Mathlib.Omega.{arith}
 use lib.Dec.{ltb, leb, eqb}
-use lib.ListN.{length, take, drop, replicate, getD, length-append, length-take, length-drop, length-replicate, take-append-drop}
-use lib.Seq.{take-at, drop-at, take-all, drop-drop, drop-cons, getD-drop}
+use lib.ListN.{length, take, drop, replicate, getD, length-drop}
+use lib.Seq.{take-all, drop-drop, drop-cons, getD-drop}
 use borrow.Author.Tests.{le-ltb, le-leb, eq-eqb, not-false}
 use Rattle.field.specs.Number.{byteAt, littleAt}
-use Rattle.field.specs.Part.{partAt, partsFrom, sameBytes, allZero, overlay}
-use Rattle.field.proofs.Laws.{part-of-part, partAt-inside, sameBytes-eq, allZero-eq, overlay-inside}
+use Rattle.field.specs.Part.{partAt, sameBytes, allZero, overlay}
+use Rattle.field.proofs.Laws.{partAt-inside, sameBytes-eq, allZero-eq, overlay-inside}
 use Rattle.field.proofs.Parts.{part-add, parts-same, parts-of, parts-at}
 use Rattle.md5.specs.Message.{md5, littleBytes}
 use Rattle.key.specs.Order.{compared, isBelow}
@@ -21,7 +21,7 @@ use Rattle.refusal.specs.Number as number
 use Rattle.refusal.specs.Number.{index-page-hash, index-padding, index-order, last-key, footer-hash}
 use Rattle.refusal.proofs.Laws.{silent-test, quiet, skip, first-left, first-right, from-each, from-silent}
 use Rattle.index.specs.declared.layout.Layout.{Layout}
-use Rattle.index.specs.Layout.{footer, entrySize, full, pagesFor, onPage, entryAt, lastKeyAt, pageHashAt, indexLength, layoutWith, layoutFrom, layoutOf, pageOf, keyAt}
+use Rattle.index.specs.Layout.{footer, entrySize, full, onPage, entryAt, lastKeyAt, pageHashAt, indexLength, layoutWith, layoutFrom, layoutOf, pageOf}
 use Rattle.index.specs.Check.{fieldCheck, fieldsCheck, footerHashCheck, footerCheck, shortCheck, lengthCheck, opening, pageHashCheck, paddingCheck, orderCheck, lastKeyCheck, pageCheck, pagesCheck, fullCheck}
 use Rattle.index.specs.Entries.{entriesOf, entriesBy, listOf}
 use Rattle.index.proofs.Laws.{on-page-fits}
@@ -32,7 +32,7 @@ use Rattle.writer.specs.Write as write
 use Rattle.writer.specs.Write.{within, settingsRight, entryCount, layoutFor, keyIn, writeCheck}
 use Rattle.writer.specs.Stored.{Held}
 use Rattle.writer.proofs.Parts.{first-eight-length}
-use Rattle.round_trip.proofs.Paged.{Same, keyOf, key-same, last-same, slot-order}
+use Rattle.round_trip.proofs.Paged.{Same, keyOf, last-same, slot-order}
 
 fewer : (q p e : ℕ) → q * e < p * e → q < p
 fewer q p e h = go (decLt q p)

@@ -1,26 +1,26 @@
 -- A written index passes the full check, and its layout and list are those it was made from.
 use mathlib.Core.Path.{_≡_, refl, sym, ap, ap₂, subst, _∙_}
-use mathlib.Core.Bool.{Bool, true, false, not, _&&_}
-use mathlib.Core.List.{List, [], _++_, append-assoc}
-use Prim.Native.Nat.{ℕ, _+_, _-_, _*_, _/_, _%_, _≤_, _<_, min}
-use native.Mathlib.Nat.{zero-mul, zero-add, add-zero, add-mul, mul-assoc, mul-one, mul-le-mul-right, mul-le-mul-left}
+use mathlib.Core.Bool.{true, false, not, _&&_}
+use mathlib.Core.List.{List, _++_, append-assoc}
+use Prim.Native.Nat.{ℕ, _+_, _-_, _*_, _≤_, _<_}
+use native.Mathlib.Nat.{zero-mul, add-zero, add-mul, mul-assoc, mul-one, mul-le-mul-right, mul-le-mul-left}
 use native.Mathlib.Decide.{decLt}
 use native.Mathlib.Omega.{arith}
 use lib.Dec.{ltb, leb, eqb}
-use lib.ListN.{length, take, drop, replicate, length-append, length-take, length-drop, length-replicate}
-use lib.Seq.{take-at, drop-at, take-all, take-append-seam}
-use borrow.Author.Tests.{lt-ltb, le-ltb, le-leb, eq-eqb}
+use lib.ListN.{length, take, drop, replicate, length-append, length-drop, length-replicate}
+use lib.Seq.{take-at, drop-at, take-all}
+use borrow.Author.Tests.{le-ltb, le-leb, eq-eqb}
 use Rattle.field.specs.Number.{byteAt, littleAt}
-use Rattle.field.specs.Part.{partAt, partsFrom, sameBytes, allZero}
+use Rattle.field.specs.Part.{partAt, sameBytes, allZero}
 use Rattle.field.proofs.Laws.{part-of-part, sameBytes-of-eq, allZero-replicate}
 use Rattle.field.proofs.Parts.{part-after, parts-same, parts-of, parts-part}
 use Rattle.md5.specs.Message.{md5, digestOf, littleBytes}
 use Rattle.key.specs.Order.{compared, isBelow}
-use Rattle.refusal.specs.Check.{Check, silent, refusedIf, first, firstFrom}
+use Rattle.refusal.specs.Check.{Check, silent, first}
 use Rattle.refusal.specs.Number.{index-short, footer-field, footer-hash, entry-count, index-length, index-page-hash, index-padding, index-order, last-key}
 use Rattle.refusal.proofs.Laws.{quiet, skip, from-silent}
 use Rattle.index.specs.declared.layout.Layout.{Layout}
-use Rattle.index.specs.Layout.{footer, entrySize, full, onPage, entryAt, lastKeyAt, pageHashAt, indexLength, layoutWith, layoutFrom, layoutOf, pageOf, keyAt}
+use Rattle.index.specs.Layout.{footer, entrySize, full, onPage, entryAt, lastKeyAt, pageHashAt, indexLength, layoutWith, layoutFrom, layoutOf, pageOf}
 use Rattle.index.specs.Check.{fieldCheck, fieldsCheck, footerHashCheck, footerCheck, opening, pageHashCheck, paddingCheck, notAbove, orderCheck, lastKeyCheck, pageCheck, pagesCheck, fullCheck}
 use Rattle.index.specs.Entries.{entriesOf, entriesBy, listOf}
 use Rattle.index.proofs.Laws.{on-page-fits, on-page-full}
@@ -28,10 +28,10 @@ use Rattle.index.proofs.Opened.{pages-hold}
 use Rattle.writer.specs.declared.Settings.{Settings}
 use Rattle.writer.specs.File.{entriesIn, pageIn, lastKeyIn, pageHashIn, pages, lastKeys, pageHashes, fields, footerWith, fileOf}
 use Rattle.writer.specs.Write as write
-use Rattle.writer.specs.Write.{layoutFor, entryCount, keyIn, writeCheck}
+use Rattle.writer.specs.Write.{layoutFor, keyIn, writeCheck}
 use Rattle.writer.specs.Stored.{Held}
-use Rattle.writer.proofs.Parts.{first-eight-length, full-positive, some-on-page, entries-length, page-length, last-key-length, pages-length, last-keys-length, hashes-length, footer-length, file-length, page-there}
-use Rattle.round_trip.proofs.Paged.{Same, keyOf, key-same, last-same, slot-order}
+use Rattle.writer.proofs.Parts.{first-eight-length, full-positive, some-on-page, entries-length, last-key-length, pages-length, last-keys-length, footer-length, file-length, page-there}
+use Rattle.round_trip.proofs.Paged.{Same, keyOf, last-same, slot-order}
 use Rattle.writer.proofs.Passed.{Passed, passed, held}
 
 -- ---- the footer

@@ -1,29 +1,24 @@
 -- A file and a list that have the same entries, page by page: their keys, and the order of these, are the same.
-use mathlib.Core.Path.{_≡_, refl, sym, ap, ap₂, subst, _∙_}
-use mathlib.Core.Bool.{Bool, true, false, not, _&&_, cond}
+use mathlib.Core.Path.{_≡_, sym, ap, _∙_}
+use mathlib.Core.Bool.{false, not, cond}
 use mathlib.Core.List.{List}
-use Prim.Native.Nat.{ℕ, zero, suc, _+_, _-_, _*_, _/_, _%_, _≤_, _<_}
-use native.Mathlib.Nat.{add-mul, mul-assoc, mul-le-mul-right, one-mul, suc-mul, add-zero, div-add-mod', mod-lt, not-suc-le-zero}
-use native.Mathlib.Numerals.{add-one-le}
-use native.Mathlib.Decide.{decLt}
+use Prim.Native.Nat.{ℕ, zero, suc, _+_, _-_, _*_, _≤_, _<_}
+use native.Mathlib.Nat.{add-mul, mul-assoc, mul-le-mul-right, one-mul, suc-mul}
 use native.Mathlib.Omega.{arith}
 use lib.Dec.{eqb}
-use lib.ListN.{length}
-use borrow.Author.Tests.{eq-eqb, ne-eqb, not-false}
+use borrow.Author.Tests.{ne-eqb}
 use Rattle.field.specs.Part.{partAt}
 use Rattle.field.proofs.Laws.{part-of-part}
 use Rattle.key.specs.Order.{compared, isBelow}
-use Rattle.refusal.specs.Check.{silent, refusedIf}
-use Rattle.refusal.specs.Number.{index-order}
-use Rattle.refusal.proofs.Laws.{silent-test, quiet}
 use Rattle.index.specs.declared.layout.Layout.{Layout}
 use Rattle.index.specs.Layout.{entrySize, full, onPage, entryAt, keyAt}
-use Rattle.index.specs.Check.{keyBefore, notAbove, orderCheck}
+use Rattle.index.specs.Check.{keyBefore, notAbove}
 use Rattle.index.specs.Entries.{entriesOf}
-use Rattle.index.proofs.Opened.{pages-tight, pages-hold}
+use Rattle.index.proofs.Laws.{key-within}
+use Rattle.index.proofs.Opened.{pages-tight}
 use Rattle.writer.specs.File.{entriesIn, lastKeyIn}
 use Rattle.writer.specs.Stored.{Held}
-use Rattle.writer.proofs.Parts.{full-positive, some-on-page, key-within}
+use Rattle.writer.proofs.Parts.{full-positive, some-on-page}
 
 -- The key of entry g of a list.
 abbrev pub keyOf : List ℕ → Layout → ℕ → List ℕ

@@ -1,7 +1,7 @@
 -- Laws of the output that the writer fills part by part.
 use mathlib.Core.Path.{_≡_, refl, sym, ap, ap₂, _∙_}
 use mathlib.Core.List.{List, _∷_, _++_}
-use Prim.Native.Nat.{ℕ, zero, suc, _+_, _-_, _*_, _≤_, _<_}
+use Prim.Native.Nat.{ℕ, zero, suc, _+_, _-_, _*_, _≤_}
 use native.Mathlib.Nat.{not-suc-le-zero, le-of-suc-le-suc}
 use native.Mathlib.Omega.{arith}
 use lib.ListN.{length, take, replicate, length-append}
@@ -10,7 +10,7 @@ use Rattle.field.proofs.Laws.{overlay-after, overlay-before}
 use Rattle.field.proofs.Parts.{part-laid, parts-length}
 use Rattle.index.specs.declared.layout.Layout.{Layout}
 use Rattle.index.specs.Layout.{entrySize, onPage}
-use Rattle.md5.specs.Message.{md5, digestOf, littleBytes}
+use Rattle.md5.specs.Message.{md5, littleBytes}
 use Rattle.writer.specs.File.{entriesIn, pageIn, fields, footerWith}
 use Rattle.writer.proofs.Parts.{first-eight-length}
 

@@ -1,13 +1,13 @@
 -- Laws of the writer's refusals, in their order.
 use mathlib.Core.Path.{_≡_, refl, sym, ap, _∙_}
-use mathlib.Core.Bool.{Bool, true, false, not}
+use mathlib.Core.Bool.{true, false, not}
 use mathlib.Core.List.{List}
-use Prim.Native.Nat.{ℕ, _+_, _-_, _*_, _%_, _≤_, _<_}
+use Prim.Native.Nat.{ℕ, _+_, _-_, _%_, _≤_, _<_}
 use native.Mathlib.Omega.{arith}
 use lib.Dec.{ltb}
 use lib.ListN.{length}
 use borrow.Author.Tests.{lt-ltb, le-ltb, eq-eqb, ne-eqb}
-use Rattle.refusal.specs.Check.{Check, silent, refused, refusedIf, first, firstFrom}
+use Rattle.refusal.specs.Check.{Check, silent, refused, refusedIf, first}
 use Rattle.refusal.specs.Number.{settings, list-length, entry-count, index-order, output-short}
 use Rattle.refusal.proofs.Laws.{said, quiet, first-said, skip}
 use Rattle.rising.specs.Fall.{risesAt, fallFrom}

@@ -1,12 +1,12 @@
 -- The lengths of the parts of a written file, and where each part stands in it.
 use mathlib.Core.Path.{_≡_, refl, sym, ap, ap₂, _∙_}
 use mathlib.Core.List.{List, _++_, append-assoc}
-use Prim.Native.Nat.{ℕ, _+_, _-_, _*_, _≤_, _<_, min}
+use Prim.Native.Nat.{ℕ, _+_, _-_, _*_, _≤_, _<_}
 use native.Mathlib.Nat.{zero-add, add-zero, add-mul, mul-add, mul-assoc, mul-le-mul-right, one-mul}
 use native.Mathlib.Omega.{arith}
 use lib.ListN.{length, take, drop, replicate, length-append, length-replicate}
 use lib.Seq.{take-at}
-use Rattle.field.specs.Part.{partAt, partsFrom, overlay}
+use Rattle.field.specs.Part.{partAt, overlay}
 use Rattle.field.proofs.Laws.{partAt-inside, overlay-after, overlay-inside}
 use Rattle.field.proofs.Parts.{part-after, parts-same, parts-length, parts-part}
 use Rattle.md5.specs.Message.{md5, digestOf, littleBytes}
@@ -14,7 +14,7 @@ use Rattle.refusal.specs.Check.{silent}
 use Rattle.refusal.specs.Output.{filled}
 use Rattle.index.specs.declared.layout.Layout.{Layout}
 use Rattle.index.specs.Layout.{entrySize, full, onPage, indexLength}
-use Rattle.index.proofs.Laws.{per-page, size-low, on-page-fits}
+use Rattle.index.proofs.Laws.{per-page, size-low, key-within, on-page-fits}
 use Rattle.index.proofs.Opened.{pages-tight}
 use Rattle.writer.specs.File.{entriesIn, pageIn, lastKeyIn, pageHashIn, pages, lastKeys, pageHashes, fields, footerWith, fileOf}
 use Rattle.writer.specs.Stored.{Held, hashesOf}
@@ -27,10 +27,6 @@ first-eight-length m = refl
 pub footer-length : (l : Layout) (contents : List ℕ) → length (footerWith l contents) ≡ 28
 unfolding footerWith fields md5 digestOf littleBytes
 footer-length l contents = refl
-
-pub key-within : (l : Layout) → l .key ≤ entrySize l
-unfolding entrySize
-key-within l = omega arith
 
 module _ (list : List ℕ) (l : Layout) (h : Held list l) where
   pub full-positive : 1 ≤ full l

@@ -1,5 +1,5 @@
 -- `writer::write`: refused, or the whole file.
-use mathlib.Core.Path.{_≡_, sym, ap, subst, _∙_}
+use mathlib.Core.Path.{sym, ap, subst, _∙_}
 use mathlib.Core.List.{_∷_, []}
 use Prim.Native.Nat.{_≤_}
 use lib.ListN.{length}

@@ -1,9 +1,9 @@
 -- `writer::file::write_footer`: the contents hash, the fields and the footer hash.
-use mathlib.Core.Path.{_≡_, refl, sym, ap, ap₂, _∙_}
+use mathlib.Core.Path.{_≡_, ap, _∙_}
 use Prim.Native.Nat.{_+_, _-_, _*_, _≤_, _^_}
 use native.Mathlib.Omega.{arith}
 use lib.Dec.{lit≤}
-use lib.ListN.{length, take}
+use lib.ListN.{length}
 use Rattle.field.proofs.Laws.{partAt-length}
 use Rattle.index.specs.Layout.{indexLength}
 use Rattle.index.proofs.Laws.{bound, first-eight-is, first-eight-within}

@@ -3,8 +3,8 @@ use mathlib.Core.Path.{_≡_, sym, ap, ap₂, _∙_}
 use Prim.Native.Nat.{_+_, _-_, _*_, _≤_}
 use native.Mathlib.Nat.{add-zero, zero-mul}
 use native.Mathlib.Omega.{arith}
-use lib.ListN.{length, take}
-use Rattle.field.specs.Part.{partAt, partsFrom, overlay}
+use lib.ListN.{length}
+use Rattle.field.specs.Part.{partsFrom, overlay}
 use Rattle.field.proofs.Laws.{overlay-none, overlay-length}
 use Rattle.index.specs.Layout.{pageHashAt}
 use Rattle.index.proofs.Laws.{bound}

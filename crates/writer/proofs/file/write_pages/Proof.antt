@@ -1,12 +1,11 @@
 -- `writer::file::write_pages`: the pages so far lie over the output.
-use mathlib.Core.Path.{_≡_, refl, sym, ap, ap₂, _∙_}
+use mathlib.Core.Path.{_≡_, sym, ap, ap₂, _∙_}
 use Prim.Native.Nat.{_+_, _-_, _*_, _≤_}
-use native.Mathlib.Nat.{add-zero, zero-add}
+use native.Mathlib.Nat.{add-zero}
 use native.Mathlib.Omega.{arith}
-use lib.ListN.{length, take, replicate}
+use lib.ListN.{length, replicate}
 use Rattle.field.specs.Part.{partAt, partsFrom, overlay}
-use Rattle.field.proofs.Laws.{overlay-none, overlay-length, overlay-after, partAt-length}
-use Rattle.field.proofs.Parts.{part-laid}
+use Rattle.field.proofs.Laws.{overlay-none, overlay-length, partAt-length}
 use Rattle.writer.proofs.Filled.{page-laid}
 use Rattle.index.proofs.Laws.{bound, on-page-fits}
 use Rattle.writer.specs.File.{pageIn, pages}
