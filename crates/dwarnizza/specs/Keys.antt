@@ -2,7 +2,7 @@
 use mathlib.Core.List.{List, [], _∷_}
 use Prim.Native.Nat.{ℕ}
 use Rattle.refusal.specs.Outcome.{Outcome, answered, after}
-use Rattle.key.specs.Text.{textCheck}
+use Rattle.key_text.specs.Text.{textCheck}
 
 -- K.
 abbrev pub textOutcome : List ℕ → ℕ → Outcome

@@ -1,7 +1,7 @@
 // Archive indexes.
 use crate::answer::refused;
 use entries::Listed;
-use index::Checked;
+use index_open::Checked;
 use lookup::Answer;
 use lookup::Bounded;
 use writer::Settings;
@@ -10,7 +10,7 @@ ghost use mathlib.Core.Path.{_≡_};
 ghost use lib.ListN.{length};
 ghost use Rattle.refusal.specs.Output.{filled};
 ghost use Rattle.index.specs.Check.{checkOutcome};
-ghost use Rattle.index.specs.Entries.{listOf};
+ghost use Rattle.index_layout.specs.Entries.{listOf};
 ghost use Rattle.entries.specs.List.{listCheck, listOutcome};
 ghost use Rattle.lookup.specs.Lookup.{lookupOf, boundOf};
 ghost use Rattle.writer.specs.File.{fileOf};
@@ -30,8 +30,8 @@ pub extern "C" fn dwarnizza_index_check(index: &[u8], answer: &mut [u64; 8]) -> 
         Checked::Refused(r) => refused(r, answer),
         Checked::Passed(l) => {
             let version = l.version as u64;
-            let offset = l.offset as u64;
-            let key = l.key as u64;
+            let offset = l.offset_width as u64;
+            let key = l.key_length as u64;
             let entries = l.entries as u64;
             let pages = l.pages as u64;
             *answer = [version, offset, key, entries, pages, 0, 0, 0];

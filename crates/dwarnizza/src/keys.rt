@@ -1,11 +1,11 @@
 // Keys.
 use crate::answer::refused;
-use field::copy;
-use field::part;
+use parts::copy;
+use parts::part;
 use refusal::Verdict;
 ghost use mathlib.Core.Path.{_≡_};
 ghost use Rattle.refusal.specs.Output.{filled};
-ghost use Rattle.key.specs.Text.{textCheck, textBytes};
+ghost use Rattle.key_text.specs.Text.{textCheck, textBytes};
 ghost use Rattle.dwarnizza.specs.Answer.{result, wordsOf};
 ghost use Rattle.dwarnizza.specs.Keys.{textOutcome};
 
@@ -21,7 +21,7 @@ pub extern "C" fn dwarnizza_key_text(
     ensures { λ _. ⌜ now (key .exit) ≡ filled (textCheck (now (text .entry)) length) (textBytes (now (text .entry))) (now (key .entry)) ⌝ }
     ensures { λ _. ⌜ now (answer .exit) ≡ wordsOf (textOutcome (now (text .entry)) length) ⌝ }
 {
-    let told = key::from_text(text, length);
+    let told = key_text::from_text(text, length);
     let verdict = told.verdict;
     let bytes = told.bytes;
     match verdict {

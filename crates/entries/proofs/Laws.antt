@@ -3,17 +3,18 @@ use mathlib.Core.Path.{_≡_, sym, ap, _∙_}
 use mathlib.Core.List.{List}
 use Prim.Native.Nat.{ℕ, _*_}
 use lib.ListN.{length}
-use Rattle.index.specs.declared.layout.Layout.{Layout}
-use Rattle.index.specs.declared.Checked.{Checked}
-use Rattle.index.specs.declared.Checked.the-variants.{Passed}
+use Rattle.index_layout.specs.declared.Layout.{Layout}
+use Rattle.index_open.specs.declared.Checked.{Checked}
+use Rattle.index_open.specs.declared.Checked.the-variants.{Passed}
 use Rattle.refusal.specs.Check.{silent}
 use Rattle.refusal.specs.Outcome.{answered, after}
 use Rattle.refusal.proofs.Laws.{first-left}
-use Rattle.index.specs.Layout.{entrySize, layoutOf}
-use Rattle.index.specs.Check.{opening, pagesCheck, fullCheck, told, outcome}
-use Rattle.index.specs.Entries.{entriesBy, listOf}
-use Rattle.index.proofs.Laws.{passed-index}
-use Rattle.index.proofs.Opened.{opened, list-length}
+use Rattle.index_layout.specs.Layout.{entrySize, layoutOf}
+use Rattle.index_open.specs.Open.{opening, layoutValues, outcome}
+use Rattle.index.specs.Check.{pagesCheck, fullCheck}
+use Rattle.index_layout.specs.Entries.{entriesBy, listOf}
+use Rattle.index_open.proofs.Laws.{passed-index}
+use Rattle.index_open.proofs.Opened.{opened, list-length}
 
 -- what a passed check says of the list
 pub record Listable (s : List ℕ) (l : Layout) (size : ℕ) : Type 0 where
@@ -21,7 +22,7 @@ pub record Listable (s : List ℕ) (l : Layout) (size : ℕ) : Type 0 where
   pub bytes : l .entries * size ≡ length (listOf s)
   pub list : entriesBy s l ≡ listOf s
 
-pub passed-list : (s : List ℕ) (l : Layout) (v : Checked) (size : ℕ) → outcome v ≡ after (fullCheck s) (answered (told (layoutOf s))) → v ≡ Passed l
+pub passed-list : (s : List ℕ) (l : Layout) (v : Checked) (size : ℕ) → outcome v ≡ after (fullCheck s) (answered (layoutValues (layoutOf s))) → v ≡ Passed l
     → size ≡ entrySize l → Listable s l size
 unfolding fullCheck
 passed-list s l v size e g z =

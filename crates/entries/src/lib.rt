@@ -1,9 +1,9 @@
 // The list of an index: its entries' bytes, in order, with nothing between.
-use field::copy;
-use field::part;
-use index::Checked;
-use index::Layout;
-use index::Page;
+use index_layout::Layout;
+use index_layout::Page;
+use index_open::Checked;
+use parts::copy;
+use parts::part;
 use refusal::OUTPUT_SHORT;
 use refusal::Refusal;
 ghost use mathlib.Core.Path.{_≡_};
@@ -11,7 +11,7 @@ ghost use Prim.Native.Nat.{_≤_};
 ghost use lib.ListN.{length};
 ghost use Rattle.refusal.specs.Check.{silent};
 ghost use Rattle.refusal.specs.Output.{filled};
-ghost use Rattle.index.specs.Entries as entries;
+ghost use Rattle.index_layout.specs.Entries as entries;
 ghost use Rattle.entries.specs.List as spec;
 
 // What listing answers: the bytes written, or a refusal.

@@ -1,11 +1,9 @@
--- Numbers at an offset of a list of bytes.
+-- Numbers at an offset of a list of bytes, and numbers between two bounds.
+use mathlib.Core.Bool.{Bool, _&&_}
 use mathlib.Core.List.{List}
 use Prim.Native.Nat.{ℕ, zero, suc, _+_, _*_, _^_}
-use lib.ListN.{getD}
-
--- The byte at an offset; 0 past the end.
-abbrev pub byteAt : List ℕ → ℕ → ℕ
-byteAt s at = getD s at 0
+use lib.Dec.{leb}
+use Rattle.parts.specs.Part.{byteAt}
 
 -- The number of w bytes at an offset, highest byte first.
 unfoldable pub bigAt : List ℕ → ℕ → ℕ → ℕ
@@ -16,3 +14,7 @@ bigAt s at (suc w) = byteAt s at * 256 ^ w + bigAt s (at + 1) w
 unfoldable pub littleAt : List ℕ → ℕ → ℕ → ℕ
 littleAt s at zero = 0
 littleAt s at (suc w) = byteAt s at + 256 * littleAt s (at + 1) w
+
+-- Whether a number lies between two bounds, both included.
+unfoldable pub within : (x low high : ℕ) → Bool
+within x low high = leb low x && leb x high

@@ -1,22 +1,20 @@
-// Numbers and parts at an offset of lent bytes. Every offset and every length is answered for: a byte past the end reads as 0,
-// and a part is as long as there are bytes for it.
+// Numbers at an offset of lent bytes. Every offset and every width is answered for: a byte past the end reads as 0.
+use parts::copy;
+use parts::least;
+use parts::part;
+use parts::rest;
 ghost use mathlib.Core.Path.{_≡_};
 ghost use Prim.Native.Nat.{ℕ, _+_, _-_, _≤_, _<_, min};
 ghost use lib.ListN.{length, getD};
-ghost use Rattle.field.specs.Number.{byteAt, bigAt, littleAt};
-ghost use Rattle.field.specs.Part.{partAt, sameBytes, allZero, overlay};
+ghost use Rattle.parts.specs.Part.{byteAt};
+ghost use Rattle.field.specs.Number as spec;
+ghost use Rattle.field.specs.Number.{bigAt, littleAt};
 
-fn least(a: usize, b: usize) -> usize
-    ensures { λ r. ⌜ r ≡ min a b ⌝ }
+// Whether a number lies between two bounds.
+pub fn within(x: u32, low: u32, high: u32) -> bool
+    ensures { λ r. ⌜ r ≡ spec.within x low high ⌝ }
 {
-    if a < b { a } else { b }
-}
-
-// How many of `count` bytes stand from `at` on.
-fn rest(count: usize, at: usize) -> usize
-    ensures { λ r. ⌜ r ≡ count - at ⌝ }
-{
-    if at < count { count - at } else { 0 }
+    low <= x && x <= high
 }
 
 // A byte as a `u64`. A cast at the read itself would ask each reader to show that the byte fits.
@@ -24,65 +22,6 @@ fn wide(x: u8) -> u64
     ensures { λ r. ⌜ r ≡ x ⌝ }
 {
     x as u64
-}
-
-// The byte at an offset.
-pub fn byte(s: &[u8], at: usize) -> u8
-    ensures { λ r. ⌜ r ≡ byteAt (now (s .entry)) at ⌝ }
-{
-    if at < s.len() { s[at] } else { 0 }
-}
-
-// The `count` bytes from an offset on.
-pub fn part(s: &[u8], at: usize, count: usize) -> &[u8]
-    ensures { λ r. ⌜ now r ≡ partAt (now (s .entry)) at count ⌝ }
-{
-    let start = least(at, s.len());
-    let end = start + least(count, s.len() - start);
-    &s[start..end]
-}
-
-// Puts the bytes of `from` in place of those of `to` from an offset on. What has no room is left out.
-pub fn copy(from: &[u8], to: &mut [u8], at: usize)
-    ensures { λ _. ⌜ now (to .exit) ≡ overlay (now (to .entry)) at (now (from .entry)) ⌝ }
-{
-    let count = least(from.len(), rest(to.len(), at));
-    let mut done = 0;
-    while done < count {
-        to[at + done] = from[done];
-        done += 1;
-    }
-}
-
-// Whether two runs of bytes are the same.
-pub fn equal(a: &[u8], b: &[u8]) -> bool
-    ensures { λ r. ⌜ r ≡ sameBytes (now (a .entry)) (now (b .entry)) ⌝ }
-{
-    if a.len() != b.len() {
-        return false;
-    }
-    let mut same = 0;
-    while same < a.len() {
-        if a[same] != b[same] {
-            return false;
-        }
-        same += 1;
-    }
-    true
-}
-
-// Whether every byte is 0.
-pub fn all_zero(s: &[u8]) -> bool
-    ensures { λ r. ⌜ r ≡ allZero (now (s .entry)) ⌝ }
-{
-    let mut zeros = 0;
-    while zeros < s.len() {
-        if s[zeros] != 0 {
-            return false;
-        }
-        zeros += 1;
-    }
-    true
 }
 
 // The eight bytes from an offset on, with zeros past the end: what a number that runs past the end is read from.

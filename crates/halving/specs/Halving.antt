@@ -4,7 +4,7 @@ use mathlib.Core.List.{List}
 use Prim.Native.Nat.{ℕ, zero, suc, _+_, _-_, _*_, _/_, _^_}
 use lib.Dec.{ltb, eqb}
 use lib.ListN.{length}
-use Rattle.field.specs.Part.{partAt}
+use Rattle.parts.specs.Part.{partAt}
 use Rattle.key.specs.Order.{compared, isBelow}
 use Rattle.halving.specs.declared.Halved.{Halved}
 

@@ -2,7 +2,7 @@
 ghost use mathlib.Core.Path.{_≡_};
 ghost use Prim.Native.Nat.{_≤_};
 ghost use lib.ListN.{length};
-ghost use Rattle.field.specs.Part.{partAt};
+ghost use Rattle.parts.specs.Part.{partAt};
 ghost use Rattle.key.specs.Order.{compared, isBelow};
 ghost use Rattle.halving.specs.Halving as spec;
 
@@ -16,7 +16,7 @@ pub struct Halved {
 fn is_below(keys: &[u8], at: usize, key: &[u8]) -> bool
     ensures { λ r. ⌜ r ≡ isBelow (compared (partAt (now (keys .entry)) at (length (now (key .entry)))) (now (key .entry))) ⌝ }
 {
-    match key::compare(field::part(keys, at, key.len()), key) {
+    match key::compare(parts::part(keys, at, key.len()), key) {
         key::Order::Below => true,
         key::Order::Equal => false,
         key::Order::Above => false,

@@ -1,11 +1,14 @@
 // The check of an index's pages.
-use crate::Layout;
-use crate::Page;
-use crate::Slot;
-use field::all_zero;
-use field::equal;
-use field::part;
+use index_layout::HASH_LENGTH;
+use index_layout::Layout;
+use index_layout::PAGE_SIZE;
+use index_layout::Page;
+use index_layout::Slot;
+use index_layout::page_at;
 use md5::TwoFirstEights;
+use parts::all_zero;
+use parts::equal;
+use parts::part;
 use refusal::INDEX_ORDER;
 use refusal::INDEX_PADDING;
 use refusal::INDEX_PAGE_HASH;
@@ -19,7 +22,7 @@ ghost use lib.ListN.{take};
 ghost use Rattle.md5.specs.Message.{md5};
 ghost use Rattle.refusal.specs.Check.{checkOf, refusedIf, firstFrom};
 ghost use Rattle.refusal.specs.Number.{index-page-hash, index-padding, last-key};
-ghost use Rattle.index.specs.Layout as layout;
+ghost use Rattle.index_layout.specs.Layout as layout;
 ghost use Rattle.index.specs.Check as spec;
 
 // The first eight bytes of the hashes of a page and of the next. Two are hashed together because that is quicker.
@@ -27,8 +30,8 @@ pub fn page_hashes(s: &[u8], page: Page) -> TwoFirstEights
     ensures { λ r. ⌜ r .first ≡ take 8 (md5 (layout.pageOf (now (s .entry)) (page .0))) ⌝ }
     ensures { λ r. ⌜ r .second ≡ take 8 (md5 (layout.pageOf (now (s .entry)) (page .0 + 1))) ⌝ }
 {
-    let at = page.0 as usize * 4096;
-    md5::first_eight_of_two(part(s, at, 4096), part(s, at + 4096, 4096))
+    let at = page_at(page);
+    md5::first_eight_of_two(part(s, at, PAGE_SIZE), part(s, at + PAGE_SIZE, PAGE_SIZE))
 }
 
 // The first eight bytes of a page's hash against the stored ones.
@@ -36,7 +39,10 @@ fn page_hash_right(index: &[u8], l: Layout, page: Page, hash: &[u8]) -> bool
     requires { ⌜ now hash ≡ take 8 (md5 (layout.pageOf (now index) (page .0))) ⌝ }
     ensures { λ r. ⌜ spec.pageHashCheck (now (index .entry)) l (page .0) ≡ refusedIf (not r) index-page-hash (page .0) ⌝ }
 {
-    equal(hash, part(index, l.page_hash_at(page), 8))
+    equal(
+        hash,
+        part(index, l.page_hash_at(page), HASH_LENGTH as usize),
+    )
 }
 
 // Whether the bytes after a page's entries are zero.
@@ -45,7 +51,7 @@ fn padding_zero(index: &[u8], l: Layout, page: Page) -> bool
 {
     let count = l.on_page(page);
     let at = l.entry_at(page, Slot(count as u32));
-    all_zero(part(index, at, 4096 - count * l.entry_size()))
+    all_zero(part(index, at, PAGE_SIZE - count * l.entry_size()))
 }
 
 // Whether a page's first key is above the last of the page before.
@@ -57,7 +63,7 @@ fn first_above(index: &[u8], l: Layout, page: Page) -> bool
     }
     let before = Page(page.0 - 1);
     let last = l.entry_at(before, l.last_slot(before));
-    let key = l.key as usize;
+    let key = l.key_length as usize;
     key::rises(
         part(index, last, key),
         part(index, l.entry_at(page, Slot(0)), key),
@@ -71,13 +77,13 @@ fn check_rest(index: &[u8], l: Layout, page: Page) -> Verdict
     let count = l.on_page(page) as u32;
     let size = l.entry_size() as u16;
     let fall = rising::fall(
-        part(index, page.0 as usize * 4096, 4096),
+        part(index, page_at(page), PAGE_SIZE),
         size,
-        l.key,
+        l.key_length,
         count,
     );
     if fall < count {
-        return refuse(INDEX_ORDER, page.0 as usize * l.full() + fall as usize);
+        return refuse(INDEX_ORDER, l.entry_number(page, Slot(fall)));
     }
     Verdict::Passed
 }
@@ -90,7 +96,7 @@ fn check_order(index: &[u8], l: Layout, page: Page) -> Verdict
         return Verdict::Passed;
     }
     if !first_above(index, l, page) {
-        return refuse(INDEX_ORDER, page.0 as usize * l.full());
+        return refuse(INDEX_ORDER, l.entry_number(page, Slot(0)));
     }
     check_rest(index, l, page)
 }
@@ -100,7 +106,7 @@ fn last_key_right(index: &[u8], l: Layout, page: Page) -> bool
     ensures { λ r. ⌜ spec.lastKeyCheck (now (index .entry)) l (page .0) ≡ refusedIf (not r) last-key (page .0) ⌝ }
 {
     let last = l.entry_at(page, l.last_slot(page));
-    let key = l.key as usize;
+    let key = l.key_length as usize;
     equal(
         part(index, l.last_key_at(page), key),
         part(index, last, key),

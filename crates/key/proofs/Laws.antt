@@ -11,7 +11,8 @@ use lib.Arith.{digits-lt}
 use lib.ListN.{length, take, drop, take-append-drop, drop-of-length-le}
 use lib.Seq.{drop-cons, getD-drop}
 use borrow.Author.Tests.{lt-ltb, le-ltb}
-use Rattle.field.specs.Number.{byteAt, bigAt}
+use Rattle.parts.specs.Part.{byteAt}
+use Rattle.field.specs.Number.{bigAt}
 use Rattle.field.proofs.Laws.{bigAt-agree, bigAt-below}
 use Rattle.key.specs.declared.Order.{Order}
 use Rattle.key.specs.declared.Order.the-variants.{Below, Equal, Above}

@@ -1,11 +1,6 @@
-// Keys: their order, unsigned bytes from the left, and their text.
+// The order of keys: unsigned bytes from the left.
 ghost use mathlib.Core.Path.{_≡_};
 ghost use Rattle.key.specs.Order.{compared, isBelow};
-
-mod text;
-
-pub use text::KeyText;
-pub use text::from_text;
 
 // How one key stands to another.
 pub enum Order {

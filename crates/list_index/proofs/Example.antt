@@ -2,13 +2,14 @@
 use mathlib.Core.Path.{_≡_, refl, ap, _∙_}
 use mathlib.Core.List.{[]}
 use Rattle.field.specs.Number.{bigAt, littleAt}
-use Rattle.field.specs.Part.{sameBytes, allZero, partsFrom}
+use Rattle.parts.specs.Part.{sameBytes, allZero, partsFrom}
 use Rattle.refusal.specs.Check.{silent, refused, refusedIf, first, firstFrom}
 use Rattle.md5.specs.Block.{addends, shifts, mixed, wordNumber, turned, step, steps, word, wordsOf, sum, block, blocks}
 use Rattle.md5.specs.Message.{littleBytes, padding, initial, digestOf, md5}
 use Rattle.key.specs.Order.{compared, decided}
-use Rattle.index.specs.Layout.{layoutFrom, pagesFor, entrySize, full, onPage, entryAt, lastKeyAt, pageHashAt, indexLength}
-use Rattle.index.specs.Check.{fieldCheck, fieldsCheck, footerHashCheck, footerCheck, opening, pageHashCheck, paddingCheck, keyBefore, notAbove, orderCheck, lastKeyCheck, pageCheck, pagesCheck, fullCheck}
+use Rattle.index_layout.specs.Layout.{layoutFrom, pagesFor, entrySize, full, onPage, entryAt, lastKeyAt, pageHashAt, indexLength}
+use Rattle.index_open.specs.Open.{fieldCheck, fieldsCheck, footerHashCheck, footerCheck, opening}
+use Rattle.index.specs.Check.{pageHashCheck, paddingCheck, keyBefore, notAbove, orderCheck, lastKeyCheck, pageCheck, pagesCheck, fullCheck}
 use Rattle.lookup.specs.Lookup.{sizeAt, locationAt}
 use Rattle.lookup.proofs.Marked.{one, none}
 use Rattle.listing.specs.Text.{ascii, digits, hex}

@@ -8,18 +8,18 @@ use lib.ListN.{length, drop, length-append}
 use borrow.Author.Tests.{le-leb, lt-leb}
 use Rattle.refusal.specs.declared.Refusal.{Refusal}
 use Rattle.refusal.specs.Outcome.{answered, after}
-use Rattle.index.specs.declared.layout.Layout.{Layout}
-use Rattle.index.specs.declared.Checked.{Checked}
-use Rattle.index.specs.declared.Checked.the-variants.{Passed, Refused}
-use Rattle.index.specs.Layout.{layoutOf, layoutFrom}
-use Rattle.index.specs.Check.{told, outcome}
-use Rattle.index.proofs.Laws.{passed-index, refused-index}
+use Rattle.index_layout.specs.declared.Layout.{Layout}
+use Rattle.index_open.specs.declared.Checked.{Checked}
+use Rattle.index_open.specs.declared.Checked.the-variants.{Passed, Refused}
+use Rattle.index_layout.specs.Layout.{layoutOf, layoutFrom}
+use Rattle.index_open.specs.Open.{layoutValues, outcome}
+use Rattle.index_open.proofs.Laws.{passed-index, refused-index}
 use Rattle.listing.specs.Put.{Put, fitted}
 use Rattle.listing.specs.Listing.{header, pagesText, refusalText, listingCheck, textAfter, text}
 use Rattle.listing.proofs.PutLaws.{put-whole}
 use Rattle.listing.proofs.Most.{listed, text-most}
 
-module _ (s : List ℕ) (v : Checked) (e : outcome v ≡ after (listingCheck s) (answered (told (layoutOf s)))) where
+module _ (s : List ℕ) (v : Checked) (e : outcome v ≡ after (listingCheck s) (answered (layoutValues (layoutOf s)))) where
   pub refused-text : {r : Refusal} → v ≡ Refused r → refusalText (r .number) (r .place) ≡ text s
   unfolding text textAfter
   refused-text g = sym (ap (λ k. textAfter k s) (refused-index (listingCheck s) (layoutOf s) v e g))
@@ -36,11 +36,11 @@ module _ (s : List ℕ) (v : Checked) (e : outcome v ≡ after (listingCheck s) 
   pub passed-fits : (l : Layout) → v ≡ Passed l → length (header l) + length (pagesText s l) < 2 ^ 64
   passed-fits l g = omega (arith, sym (length-append (header l) (pagesText s l)) ∙ ap length (passed-text l g), text-most s)
 
-  pub passed-width : (l : Layout) → v ≡ Passed l → l .offset ≤ 8
+  pub passed-width : (l : Layout) → v ≡ Passed l → l .«offset_width» ≤ 8
   unfolding layoutFrom
   passed-width l g =
       let i = passed-index (listingCheck s) l (layoutOf s) v e g in
-      omega (arith, ap (λ m. m .offset) (i .1), listed s (i .0) .1 .offset-high)
+      omega (arith, ap (λ m. m .«offset_width») (i .1), listed s (i .0) .1 .offset-high)
 
 -- ---- the output
 

@@ -4,19 +4,19 @@ use mathlib.Core.List.{List}
 use Prim.Native.Nat.{ℕ, _+_}
 use native.Mathlib.Omega.{arith}
 use lib.ListN.{length, length-append}
-use Rattle.index.specs.declared.layout.Layout.{Layout}
-use Rattle.index.specs.Layout.{keyAt}
+use Rattle.index_layout.specs.declared.Layout.{Layout}
+use Rattle.index_layout.specs.Layout.{keyAt}
 use Rattle.lookup.specs.Lookup.{sizeAt, locationAt}
 use Rattle.listing.specs.Text.{ascii, decimal, hex}
 use Rattle.listing.specs.Listing.{header, locationText, line, placeText, refusalText}
 
 pub header-length : (l : Layout) → length (header l)
-    ≡ 35 + length (decimal (l .key)) + length (decimal (l .offset)) + length (decimal (l .entries)) + length (decimal (l .pages))
+    ≡ 35 + length (decimal (l .«key_length»)) + length (decimal (l .«offset_width»)) + length (decimal (l .entries)) + length (decimal (l .pages))
 unfolding header ascii
 header-length l = simp length-append (omega arith)
 
 pub line-length : (s : List ℕ) (l : Layout) (p i : ℕ) → length (line s l p i)
-    ≡ 2 + length (hex (keyAt s l p i)) + length (decimal (sizeAt s l p i)) + length (locationText (l .offset) (locationAt s l p i))
+    ≡ 2 + length (hex (keyAt s l p i)) + length (decimal (sizeAt s l p i)) + length (locationText (l .«offset_width») (locationAt s l p i))
 unfolding line ascii
 line-length s l p i = simp length-append (omega arith)
 

@@ -7,9 +7,9 @@ use native.Mathlib.Omega.{arith}
 use lib.ListN.{length, length-append}
 use borrow.Author.Tests.{eq-eqb, ne-eqb}
 use Rattle.field.specs.Number.{bigAt}
-use Rattle.field.specs.Part.{partAt}
-use Rattle.index.specs.declared.layout.Layout.{Layout}
-use Rattle.index.specs.Layout.{entryAt, keyAt}
+use Rattle.parts.specs.Part.{partAt}
+use Rattle.index_layout.specs.declared.Layout.{Layout}
+use Rattle.index_layout.specs.Layout.{entryAt, keyAt}
 use Rattle.lookup.specs.Lookup.{archiveOf, offsetOf}
 use Rattle.lookup.proofs.Laws.{size-is, location-is}
 use Rattle.listing.specs.Text.{ascii, decimal, hex}
@@ -46,14 +46,14 @@ six-length width location archive offset h a o =
 
 -- ---- an entry
 
-module _ (s : List ℕ) (l : Layout) (p i at : ℕ) (e : at ≡ entryAt l p i) (w : l .offset ≤ 8) (key : List ℕ) (size location : ℕ)
-    (k : key ≡ partAt s at (l .key)) (z : size ≡ bigAt s (at + l .key) 4) (x : location ≡ bigAt s (at + l .key + 4) (min (l .offset) 8)) where
+module _ (s : List ℕ) (l : Layout) (p i at : ℕ) (e : at ≡ entryAt l p i) (w : l .«offset_width» ≤ 8) (key : List ℕ) (size location : ℕ)
+    (k : key ≡ partAt s at (l .«key_length»)) (z : size ≡ bigAt s (at + l .«key_length») 4) (x : location ≡ bigAt s (at + l .«key_length» + 4) (min (l .«offset_width») 8)) where
   key-is : key ≡ keyAt s l p i
-  key-is = k ∙ ap (λ n. partAt s n (l .key)) e
+  key-is = k ∙ ap (λ n. partAt s n (l .«key_length»)) e
 
-  pub line-is : hex key ++ numbered " " size ++ locationText (l .offset) location ++ ascii "\n" ≡ line s l p i
+  pub line-is : hex key ++ numbered " " size ++ locationText (l .«offset_width») location ++ ascii "\n" ≡ line s l p i
   unfolding line
   line-is = rw (key-is, size-is s l p i at e size z, location-is s l p i at e location w x)
 
-  pub line-ends : length (line s l p i) ≡ 2 + length (hex key) + length (decimal size) + length (locationText (l .offset) location)
+  pub line-ends : length (line s l p i) ≡ 2 + length (hex key) + length (decimal size) + length (locationText (l .«offset_width») location)
   line-ends = rw (key-is, size-is s l p i at e size z, location-is s l p i at e location w x) (line-length s l p i)

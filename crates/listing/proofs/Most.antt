@@ -8,16 +8,17 @@ use native.Mathlib.Omega.{arith}
 use lib.Dec.{ltb, eqb}
 use lib.ListN.{length, length-append}
 use borrow.Author.Tests.{ltb-false}
-use Rattle.field.specs.Part.{partsFrom}
-use Rattle.field.proofs.Laws.{partAt-length}
+use Rattle.parts.specs.Part.{partsFrom}
+use Rattle.parts.proofs.Laws.{partAt-length}
 use Rattle.refusal.specs.Check.{Check, silent, refused}
 use Rattle.refusal.specs.Number.{listing-input}
 use Rattle.refusal.proofs.Laws.{first-left, first-right, silent-test}
-use Rattle.index.specs.declared.layout.Layout.{Layout}
-use Rattle.index.specs.Layout.{layoutFrom, layoutOf, full, onPage, indexLength, entryAt, keyAt}
-use Rattle.index.specs.Check.{opening, pagesCheck, fullCheck}
-use Rattle.index.proofs.Laws.{full-fits, on-page-full}
-use Rattle.index.proofs.Opened.{Opened, opened, size-range}
+use Rattle.index_layout.specs.declared.Layout.{Layout}
+use Rattle.index_layout.specs.Layout.{layoutFrom, layoutOf, full, onPage, indexLength, entryAt, keyAt}
+use Rattle.index_open.specs.Open.{opening}
+use Rattle.index.specs.Check.{pagesCheck, fullCheck}
+use Rattle.index_layout.proofs.Laws.{full-fits, on-page-full}
+use Rattle.index_open.proofs.Opened.{Opened, opened, size-range}
 use Rattle.lookup.specs.Lookup.{archiveOf, offsetOf, sizeAt, locationAt}
 use Rattle.listing.specs.Text.{ascii, decimal}
 use Rattle.listing.specs.Listing.{numbered, header, locationText, line, pageText, pagesText, hasPlace, placeText, refusalText, inputCheck, listingCheck, textAfter, text}
@@ -44,11 +45,11 @@ refusal-most number place =
 
 header-most : (l : Layout) → length (header l) ≤ 115
 header-most l =
-    omega (arith, header-length l, decimal-most (l .key), decimal-most (l .offset), decimal-most (l .entries), decimal-most (l .pages))
+    omega (arith, header-length l, decimal-most (l .«key_length»), decimal-most (l .«offset_width»), decimal-most (l .entries), decimal-most (l .pages))
 
-line-most : (s : List ℕ) (l : Layout) (p i : ℕ) → l .key ≤ 16 → length (line s l p i) ≤ 96
+line-most : (s : List ℕ) (l : Layout) (p i : ℕ) → l .«key_length» ≤ 16 → length (line s l p i) ≤ 96
 line-most s l p i h =
-    omega (arith, line-length s l p i, hex-length (keyAt s l p i), partAt-length s (entryAt l p i) (l .key), decimal-most (sizeAt s l p i), location-most (l .offset) (locationAt s l p i))
+    omega (arith, line-length s l p i, hex-length (keyAt s l p i), partAt-length s (entryAt l p i) (l .«key_length»), decimal-most (sizeAt s l p i), location-most (l .«offset_width») (locationAt s l p i))
 
 parts-most : (f : ℕ → List ℕ) (c i n : ℕ) → ((j : ℕ) → length (f j) ≤ c) → length (partsFrom f i n) ≤ n * c
 unfolding partsFrom
@@ -57,7 +58,7 @@ parts-most f c i (suc n) h =
     rw (length-append (f i) (partsFrom f (suc i) n), suc-mul n c) (omega (arith, h i, parts-most f c (suc i) n h))
 
 module _ (s : List ℕ) (o : Opened s) where
-  key-most : layoutOf s .key ≤ 16
+  key-most : layoutOf s .«key_length» ≤ 16
   unfolding layoutFrom
   key-most = o .key-high
 
@@ -74,7 +75,7 @@ module _ (s : List ℕ) (o : Opened s) where
   pages-most : length s ≤ 65536 → layoutOf s .pages ≤ 15
   unfolding indexLength layoutFrom
   pages-most h =
-      let wide : 4105 ≤ 4096 + layoutOf s .key + 8 = omega (arith, o .key-low) in
+      let wide : 4105 ≤ 4096 + layoutOf s .«key_length» + 8 = omega (arith, o .key-low) in
       omega (arith, o .whole, mul-le-mul-left (layoutOf s .pages) wide)
 
   listed-most : length s ≤ 65536 → length (header (layoutOf s) ++ pagesText s (layoutOf s)) ≤ 655360

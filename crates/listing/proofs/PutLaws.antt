@@ -6,9 +6,9 @@ use native.Mathlib.Nat.{zero-add, add-zero, suc-add, add-suc, add-assoc}
 use native.Mathlib.Numerals.{add-one-le}
 use native.Mathlib.Omega.{arith}
 use lib.ListN.{length, drop, length-append}
-use Rattle.field.specs.Part.{overlay, partsFrom}
-use Rattle.field.proofs.Laws.{overlay-length, overlay-inside}
-use Rattle.field.proofs.Parts.{parts-next, parts-room}
+use Rattle.parts.specs.Part.{overlay, partsFrom}
+use Rattle.parts.proofs.Laws.{overlay-length, overlay-inside}
+use Rattle.parts.proofs.Parts.{parts-next, parts-room}
 use Rattle.listing.specs.Put.{Put}
 
 -- one text after another
@@ -26,7 +26,7 @@ overlay-none [] at = refl
 overlay-none (x ∷ out) (suc at) = ap (λ (r : List ℕ). x ∷ r) (overlay-none out at)
 overlay-none (x ∷ out) zero = refl
 
--- the same text, told otherwise
+-- the same text, layoutValues otherwise
 pub put-same : {out after : List ℕ} {at to : ℕ} {a b : List ℕ} → Put out at a after to → a ≡ b → Put out at b after to
 put-same {out} {after} {at} {to} p e = subst (λ (t : List ℕ). Put out at t after to) e p
 

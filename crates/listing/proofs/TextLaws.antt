@@ -10,7 +10,7 @@ use lib.Dec.{ltb}
 use lib.ListN.{length, take, drop, set, getD, length-append, length-take, length-set}
 use lib.Seq.{drop-cons, drop-set-lt, getD-set-same}
 use borrow.Author.Tests.{lt-ltb, le-ltb}
-use Rattle.field.proofs.Laws.{part-to-end}
+use Rattle.parts.proofs.Laws.{part-to-end}
 use Rattle.listing.specs.Put.{Put}
 use Rattle.listing.specs.Text.{digits, decimal, hexDigit, hex}
 use Rattle.listing.proofs.PutLaws.{put-next}

@@ -5,11 +5,11 @@ use Prim.Native.Nat.{ℕ}
 use Prim.Native.String.{String}
 use lib.Dec.{ltb, leb, eqb}
 use lib.ListN.{length}
-use Rattle.field.specs.Part.{partsFrom}
+use Rattle.parts.specs.Part.{partsFrom}
 use Rattle.refusal.specs.Check.{Check, silent, refused, refusedIf, first}
 use Rattle.refusal.specs.Number.{index-page-hash, last-key, chunk-hash, decoded-size, encoding-page-hash, first-key, block-cut, id-range, hex-digit, listing-input}
-use Rattle.index.specs.declared.layout.Layout.{Layout}
-use Rattle.index.specs.Layout.{onPage, layoutOf, keyAt}
+use Rattle.index_layout.specs.declared.Layout.{Layout}
+use Rattle.index_layout.specs.Layout.{onPage, layoutOf, keyAt}
 use Rattle.index.specs.Check.{fullCheck}
 use Rattle.lookup.specs.Lookup.{sizeAt, locationAt, archiveOf, offsetOf}
 use Rattle.listing.specs.Text.{ascii, decimal, hex}
@@ -21,8 +21,8 @@ numbered word n = ascii word ++ decimal n
 -- The first line.
 unfoldable pub header : Layout → List ℕ
 header l =
-    numbered "index key=" (l .key)
-    ++ numbered " offset=" (l .offset)
+    numbered "index key=" (l .«key_length»)
+    ++ numbered " offset=" (l .«offset_width»)
     ++ numbered " entries=" (l .entries)
     ++ numbered " pages=" (l .pages)
     ++ ascii "\n"
@@ -35,7 +35,7 @@ locationText w location =
 -- The line of slot i of page p: key, size, and archive number and offset.
 unfoldable pub line : List ℕ → Layout → ℕ → ℕ → List ℕ
 line s l p i =
-    hex (keyAt s l p i) ++ numbered " " (sizeAt s l p i) ++ locationText (l .offset) (locationAt s l p i) ++ ascii "\n"
+    hex (keyAt s l p i) ++ numbered " " (sizeAt s l p i) ++ locationText (l .«offset_width») (locationAt s l p i) ++ ascii "\n"
 
 -- The lines of a page's entries, and those of all pages.
 unfoldable pub pageText : List ℕ → Layout → ℕ → List ℕ

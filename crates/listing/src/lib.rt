@@ -1,12 +1,12 @@
 // An archive index as text.
 use field::big;
-use field::part;
-use index::Checked;
-use index::Layout;
-use index::Page;
-use index::Slot;
+use index_layout::Layout;
+use index_layout::Page;
+use index_layout::Slot;
+use index_open::Checked;
 use lookup::archive;
 use lookup::offset;
+use parts::part;
 use refusal::BLOCK_CUT;
 use refusal::CHUNK_HASH;
 use refusal::DECODED_SIZE;
@@ -25,8 +25,8 @@ ghost use mathlib.Core.Path.{_≡_};
 ghost use Prim.Native.Nat.{_+_, _^_, _≤_, _<_};
 ghost use lib.ListN.{length};
 ghost use Rattle.refusal.specs.Outcome.{answered, after};
-ghost use Rattle.index.specs.Layout.{layoutOf};
-ghost use Rattle.index.specs.Check.{told, outcome};
+ghost use Rattle.index_layout.specs.Layout.{layoutOf};
+ghost use Rattle.index_open.specs.Open.{layoutValues, outcome};
 ghost use Rattle.listing.specs.Put.{Put, fitted};
 ghost use Rattle.listing.specs.Listing as spec;
 
@@ -52,22 +52,22 @@ fn put_location(width: u8, location: u64, output: &mut [u8], at: usize) -> usize
 
 // The line of an entry.
 fn put_line(index: &[u8], l: Layout, page: Page, slot: Slot, output: &mut [u8], at: usize) -> usize
-    requires { ⌜ (l .offset ≤ 8) × (at + length (spec.line (now index) l (page .0) (slot .0)) < 2 ^ 64) ⌝ }
+    requires { ⌜ (l .«offset_width» ≤ 8) × (at + length (spec.line (now index) l (page .0) (slot .0)) < 2 ^ 64) ⌝ }
     ensures { λ r. ⌜ Put (now (output .entry)) at (spec.line (now (index .entry)) l (page .0) (slot .0)) (now (output .exit)) r ⌝ }
 {
-    let key = l.key as usize;
+    let key = l.key_length as usize;
     let entry = l.entry_at(page, slot);
     let size = big(index, entry + key, 4);
-    let location = big(index, entry + key + 4, l.offset as usize);
+    let location = big(index, entry + key + 4, l.offset_width as usize);
     let mut to = put_hex(part(index, entry, key), output, at);
     to = put_number(b" ", size, output, to);
-    to = put_location(l.offset, location, output, to);
+    to = put_location(l.offset_width, location, output, to);
     put(b"\n", output, to)
 }
 
 // The lines of a page's entries.
 fn put_page(index: &[u8], l: Layout, page: Page, output: &mut [u8], at: usize) -> usize
-    requires { ⌜ (l .offset ≤ 8) × (at + length (spec.pageText (now index) l (page .0)) < 2 ^ 64) ⌝ }
+    requires { ⌜ (l .«offset_width» ≤ 8) × (at + length (spec.pageText (now index) l (page .0)) < 2 ^ 64) ⌝ }
     ensures { λ r. ⌜ Put (now (output .entry)) at (spec.pageText (now (index .entry)) l (page .0)) (now (output .exit)) r ⌝ }
 {
     let count = l.on_page(page);
@@ -82,7 +82,7 @@ fn put_page(index: &[u8], l: Layout, page: Page, output: &mut [u8], at: usize) -
 
 // The lines of all pages.
 fn put_pages(index: &[u8], l: Layout, output: &mut [u8], at: usize) -> usize
-    requires { ⌜ (l .offset ≤ 8) × (at + length (spec.pagesText (now index) l) < 2 ^ 64) ⌝ }
+    requires { ⌜ (l .«offset_width» ≤ 8) × (at + length (spec.pagesText (now index) l) < 2 ^ 64) ⌝ }
     ensures { λ r. ⌜ Put (now (output .entry)) at (spec.pagesText (now (index .entry)) l) (now (output .exit)) r ⌝ }
 {
     let pages = l.pages;
@@ -100,8 +100,8 @@ fn put_header(l: Layout, output: &mut [u8], at: usize) -> usize
     requires { ⌜ at + length (spec.header l) < 2 ^ 64 ⌝ }
     ensures { λ r. ⌜ Put (now (output .entry)) at (spec.header l) (now (output .exit)) r ⌝ }
 {
-    let mut to = put_number(b"index key=", l.key as u64, output, at);
-    to = put_number(b" offset=", l.offset as u64, output, to);
+    let mut to = put_number(b"index key=", l.key_length as u64, output, at);
+    to = put_number(b" offset=", l.offset_width as u64, output, to);
     to = put_number(b" entries=", l.entries as u64, output, to);
     to = put_number(b" pages=", l.pages as u64, output, to);
     put(b"\n", output, to)

@@ -1,5 +1,5 @@
 // Text, put into output from a place on. Each function tells the place after its text; what has no room is left out.
-use field::copy;
+use parts::copy;
 ghost use mathlib.Core.Path.{_≡_};
 ghost use mathlib.Core.List.{_++_};
 ghost use Prim.Native.Nat.{_+_, _^_, _<_};

@@ -8,14 +8,16 @@ use Prim.Native.Nat.{ℕ, _≤_}
 use lib.ListN.{length}
 use Rattle.refusal.specs.Check.{silent}
 use Rattle.refusal.proofs.Laws.{first-left, first-right}
-use Rattle.index.specs.declared.layout.Layout.{Layout}
-use Rattle.index.specs.declared.Checked.{Checked}
-use Rattle.index.specs.declared.Checked.the-variants.{Passed}
-use Rattle.index.specs.Layout.{full, layoutOf}
-use Rattle.index.specs.Check as check
-use Rattle.index.specs.Check.{opening, fullCheck, checkOutcome}
-use Rattle.index.proofs.Laws.{on-page-full, passed-index}
-use Rattle.index.proofs.Opened.{opened, on-page-some}
+use Rattle.index_layout.specs.declared.Layout.{Layout}
+use Rattle.index_open.specs.declared.Checked.{Checked}
+use Rattle.index_open.specs.declared.Checked.the-variants.{Passed}
+use Rattle.index_layout.specs.Layout.{full, layoutOf}
+use Rattle.index_open.specs.Open as check
+use Rattle.index_open.specs.Open.{opening}
+use Rattle.index.specs.Check.{fullCheck, checkOutcome}
+use Rattle.index_layout.proofs.Laws.{on-page-full}
+use Rattle.index_open.proofs.Laws.{passed-index}
+use Rattle.index_open.proofs.Opened.{opened, on-page-some}
 use Rattle.lookup.specs.declared.Answer.{Answer}
 use Rattle.lookup.specs.Lookup.{storedIn, ended, lookupOf, mostOf, outcome}
 use Rattle.lookup.specs.Plain.{plainReading, withCount}
@@ -35,7 +37,7 @@ pub record Agrees (s sought : List ℕ) : Type 0 where
   -- At most the binary digits of the page count and of a full page's entry count, and 1.
   pub bound : comparisons s sought ≤ mostOf (layoutOf s)
 
-pub demand3 : (s sought : List ℕ) → fullCheck s ≡ silent → length sought ≡ layoutOf s .key → Agrees s sought
+pub demand3 : (s sought : List ℕ) → fullCheck s ≡ silent → length sought ≡ layoutOf s .«key_length» → Agrees s sought
 unfolding fullCheck storedIn mostOf
 demand3 s sought passed size =
     let l = layoutOf s in
@@ -49,9 +51,9 @@ demand3 s sought passed size =
 
 -- The same of the functions: where `index::check` answers v, which passes, and `lookup::lookup` answers r.
 pub demand3-answers : (s sought : List ℕ) (l : Layout) (v : Checked) (r : Answer)
-    → check.outcome v ≡ checkOutcome s → v ≡ Passed l → length sought ≡ l .key → outcome r ≡ lookupOf s sought
+    → check.outcome v ≡ checkOutcome s → v ≡ Passed l → length sought ≡ l .«key_length» → outcome r ≡ lookupOf s sought
     → (outcome r ≡ withCount (plainReading s sought) (comparisons s sought)) × (comparisons s sought ≤ mostOf (layoutOf s))
 demand3-answers s sought l v r checked passed size looked =
     let known = passed-index (fullCheck s) l (layoutOf s) v checked passed in
-    let agrees = demand3 s sought (known .0) (size ∙ ap (λ m. m .key) (known .1)) in
+    let agrees = demand3 s sought (known .0) (size ∙ ap (λ m. m .«key_length») (known .1)) in
     (looked ∙ agrees .answer, agrees .bound)

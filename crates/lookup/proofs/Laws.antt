@@ -9,9 +9,10 @@ use lib.Dec.{eqb}
 use lib.ListN.{length, drop, length-drop}
 use lib.Seq.{take-all, drop-drop}
 use borrow.Author.Tests.{lt-ltb, le-ltb, eq-eqb, ne-eqb, not-true, not-false}
-use Rattle.field.specs.Number.{byteAt, bigAt}
-use Rattle.field.specs.Part.{partAt, sameBytes}
-use Rattle.field.proofs.Laws.{bigAt-below, sameBytes-of-eq, sameBytes-eq}
+use Rattle.parts.specs.Part.{byteAt, partAt, sameBytes}
+use Rattle.field.specs.Number.{bigAt}
+use Rattle.parts.proofs.Laws.{sameBytes-of-eq, sameBytes-eq}
+use Rattle.field.proofs.Laws.{bigAt-below}
 use Rattle.key.specs.Order.{compared, isBelow, isEqual}
 use Rattle.key.proofs.Laws.{equal-of-eq, eq-of-equal, isEqual-true}
 use Rattle.refusal.specs.Check.{silent, refused}
@@ -21,10 +22,10 @@ use Rattle.refusal.specs.Outcome.{answered, refusal}
 use Rattle.halving.specs.declared.Halved.{Halved}
 use Rattle.halving.specs.Halving.{halve, keyBelow, digits}
 use Rattle.halving.proofs.Laws.{halve-agree}
-use Rattle.index.specs.declared.layout.Layout.{Layout}
-use Rattle.index.specs.Layout.{entrySize, full, onPage, entryAt, lastKeyAt, layoutFrom, layoutOf, keyAt}
-use Rattle.index.specs.Check.{opening}
-use Rattle.index.proofs.Opened.{opened}
+use Rattle.index_layout.specs.declared.Layout.{Layout}
+use Rattle.index_layout.specs.Layout.{entrySize, full, onPage, entryAt, lastKeyAt, layoutFrom, layoutOf, keyAt}
+use Rattle.index_open.specs.Open.{opening}
+use Rattle.index_open.proofs.Opened.{opened}
 use Rattle.lookup.specs.declared.Answer.{Answer}
 use Rattle.lookup.specs.declared.Answer.the-variants.{Absent}
 use Rattle.lookup.specs.Lookup.{storedIn, slotHalved, endedAt, endedOn, pageHalved, endedFrom, ended, sizeAt, locationAt, archiveOf, offsetOf, toldOf, keyCheck, lookupOf, mostOf, boundOf, outcome}
@@ -37,20 +38,20 @@ rest-part s base at n =
     let short : length (drop base s) ≤ length s = omega (arith, length-drop base s) in
     rw (take-all (length s) (drop base s) short, drop-drop at base s)
 
-module _ (s sought : List ℕ) (l : Layout) (size : length sought ≡ l .key) where
+module _ (s sought : List ℕ) (l : Layout) (size : length sought ≡ l .«key_length») where
   -- Keys that stand where the index has them, from a base on, are halved over as the index's own.
   halved-from : (keys : List ℕ) (base stride : ℕ) (at : ℕ → ℕ) → keys ≡ partAt s base (length s) → ((i : ℕ) → base + i * stride ≡ at i)
-      → (w : ℕ) → halve (keyBelow keys stride sought) w ≡ halve (λ i. isBelow (compared (partAt s (at i) (l .key)) sought)) w
+      → (w : ℕ) → halve (keyBelow keys stride sought) w ≡ halve (λ i. isBelow (compared (partAt s (at i) (l .«key_length»)) sought)) w
   unfolding keyBelow
   halved-from keys base stride at e place w =
       halve-agree _ _ w
       (λ i h. ap (λ k. isBelow (compared k sought)) (rw (e, rest-part s base (i * stride) (length sought), place i, size)))
 
   pub page-halved : (keys : List ℕ) (at : ℕ) (r : Halved) → keys ≡ partAt s at (length s) → at ≡ lastKeyAt l 0
-      → r ≡ halve (keyBelow keys (l .key) sought) (l .pages) → r ≡ pageHalved (storedIn s l sought)
+      → r ≡ halve (keyBelow keys (l .«key_length») sought) (l .pages) → r ≡ pageHalved (storedIn s l sought)
   unfolding pageHalved storedIn lastKeyAt
   page-halved keys at r e f h =
-      h ∙ halved-from keys at (l .key) (lastKeyAt l) e (λ p. rw (f, zero-mul (l .key)) (omega arith)) (l .pages)
+      h ∙ halved-from keys at (l .«key_length») (lastKeyAt l) e (λ p. rw (f, zero-mul (l .«key_length»)) (omega arith)) (l .pages)
 
   pub slot-halved : (keys : List ℕ) (p at stride count : ℕ) (r : Halved) → keys ≡ partAt s at (length s) → at ≡ entryAt l p 0
       → stride ≡ entrySize l → count ≡ onPage l p → r ≡ halve (keyBelow keys stride sought) count → r ≡ slotHalved (storedIn s l sought) p
@@ -80,7 +81,7 @@ module _ (s sought : List ℕ) (l : Layout) where
     unfolding outcome toldOf endedOn endedAt storedIn
     no-slot none = rw (← e, le-ltb (h .place) (onPage l p) (rw g at none))
 
-    module _ (a : List ℕ) (at : ℕ) (t : Bool) (some : h .place < n) (f : at ≡ entryAt l p (h .place)) (k : a ≡ partAt s at (l .key)) (z : t ≡ sameBytes a sought) where
+    module _ (a : List ℕ) (at : ℕ) (t : Bool) (some : h .place < n) (f : at ≡ entryAt l p (h .place)) (k : a ≡ partAt s at (l .«key_length»)) (z : t ≡ sameBytes a sought) where
       same-there : isEqual (compared (keyAt s l p (h .place)) sought) ≡ t
       same-there = equal-is-same _ sought ∙ sym (rw (k, f) at z)
 
@@ -93,7 +94,7 @@ module _ (s sought : List ℕ) (l : Layout) where
           → outcome r ≡ answered (p ∷ h .place ∷ sizeAt s l p (h .place) ∷ locationAt s l p (h .place) ∷ (count + h .count + 1) ∷ [])
           → outcome r ≡ toldOf s l (endedOn (storedIn s l sought) p count)
       unfolding toldOf endedOn endedAt storedIn
-      same-key r x told = told ∙ rw (← e, lt-ltb (h .place) (onPage l p) (rw g at some), same-there, not-false t x)
+      same-key r x layoutValues = layoutValues ∙ rw (← e, lt-ltb (h .place) (onPage l p) (rw g at some), same-there, not-false t x)
 
   -- on the last keys
   module _ (h : Halved) (e : h ≡ pageHalved (storedIn s l sought)) where
@@ -105,13 +106,13 @@ module _ (s sought : List ℕ) (l : Layout) where
         → outcome r ≡ toldOf s l (endedOn (storedIn s l sought) (h .place) (h .count))
         → outcome r ≡ toldOf s l (ended (storedIn s l sought))
     unfolding ended endedFrom storedIn
-    on-page r some told = told ∙ rw (← e, lt-ltb (h .place) (l .pages) some)
+    on-page r some layoutValues = layoutValues ∙ rw (← e, lt-ltb (h .place) (l .pages) some)
 
 -- ---- an entry's size and location
-pub entry-fits : (l : Layout) (p i at : ℕ) → at ≡ entryAt l p i → p < 2 ^ 32 → i < 2 ^ 32 → l .key < 256 → l .offset < 256 → at + l .key + 4 < 2 ^ 64
+pub entry-fits : (l : Layout) (p i at : ℕ) → at ≡ entryAt l p i → p < 2 ^ 32 → i < 2 ^ 32 → l .«key_length» < 256 → l .«offset_width» < 256 → at + l .«key_length» + 4 < 2 ^ 64
 unfolding entryAt entrySize
 entry-fits l p i at e hp hi hk ho =
-    let small : l .key + 4 + l .offset ≤ 514 = omega arith in
+    let small : l .«key_length» + 4 + l .«offset_width» ≤ 514 = omega arith in
     let low : i ≤ 4294967295 = omega arith in
     omega (arith, mul-le-mul low small)
 
@@ -119,14 +120,14 @@ pub size-fits : (s : List ℕ) (at r : ℕ) → ((i : ℕ) → byteAt s i < 256)
 size-fits s at r bytes e = rw e (bigAt-below s bytes at 4)
 
 module _ (s : List ℕ) (l : Layout) (p i at : ℕ) (e : at ≡ entryAt l p i) where
-  pub size-is : (r : ℕ) → r ≡ bigAt s (at + l .key) 4 → r ≡ sizeAt s l p i
+  pub size-is : (r : ℕ) → r ≡ bigAt s (at + l .«key_length») 4 → r ≡ sizeAt s l p i
   unfolding sizeAt
   size-is r h = rw e at h
 
-  pub location-is : (r : ℕ) → l .offset ≤ 8 → r ≡ bigAt s (at + l .key + 4) (min (l .offset) 8) → r ≡ locationAt s l p i
+  pub location-is : (r : ℕ) → l .«offset_width» ≤ 8 → r ≡ bigAt s (at + l .«key_length» + 4) (min (l .«offset_width») 8) → r ≡ locationAt s l p i
   unfolding locationAt
   location-is r w h =
-      let narrow : min (l .offset) 8 ≡ l .offset = omega arith in
+      let narrow : min (l .«offset_width») 8 ≡ l .«offset_width» = omega arith in
       rw (e, narrow) at h
 
 -- A location of six bytes is the archive number in the first two, then the offset in four.
@@ -146,7 +147,7 @@ module _ (s : List ℕ) (at : ℕ) (bytes : (i : ℕ) → byteAt s i < 256) wher
 -- ---- what the checks say
 
 -- a number has room for the offset width of an opened index
-pub width-fits : (s : List ℕ) → opening s ≡ silent → layoutOf s .offset ≤ 8
+pub width-fits : (s : List ℕ) → opening s ≡ silent → layoutOf s .«offset_width» ≤ 8
 unfolding layoutFrom
 width-fits s e = omega (arith, opened s e .offset-high)
 
@@ -155,21 +156,21 @@ module _ (s sought : List ℕ) where
   unfolding lookupOf
   not-opened e = sym (after-said _ (first-said _ e))
 
-  pub opened-lookup : opening s ≡ silent → length sought ≡ layoutOf s .key → lookupOf s sought ≡ toldOf s (layoutOf s) (ended (storedIn s (layoutOf s) sought))
+  pub opened-lookup : opening s ≡ silent → length sought ≡ layoutOf s .«key_length» → lookupOf s sought ≡ toldOf s (layoutOf s) (ended (storedIn s (layoutOf s) sought))
   unfolding lookupOf keyCheck
   opened-lookup e h =
-      let right : not (eqb (length sought) (layoutOf s .key)) ≡ false = ap not (eq-eqb (length sought) (layoutOf s .key) h) in
+      let right : not (eqb (length sought) (layoutOf s .«key_length»)) ≡ false = ap not (eq-eqb (length sought) (layoutOf s .«key_length») h) in
       after-quiet _ (skip e (quiet index-key-length 0 refl right))
 
   module _ (l : Layout) (e : opening s ≡ silent) (g : l ≡ layoutOf s) where
-    pub other-length : (length sought ≡ l .key → ⊥) → refusal index-key-length 0 ≡ lookupOf s sought
+    pub other-length : (length sought ≡ l .«key_length» → ⊥) → refusal index-key-length 0 ≡ lookupOf s sought
     unfolding lookupOf keyCheck
     other-length h =
-        let wrong : not (eqb (length sought) (layoutOf s .key)) ≡ true = ap not (ne-eqb (length sought) (layoutOf s .key) (rw g at h)) in
+        let wrong : not (eqb (length sought) (layoutOf s .«key_length»)) ≡ true = ap not (ne-eqb (length sought) (layoutOf s .«key_length») (rw g at h)) in
         sym (after-said _ (skip e (said refl wrong)))
 
-    pub looked-up : (r : Answer) → length sought ≡ l .key → outcome r ≡ toldOf s l (ended (storedIn s l sought)) → outcome r ≡ lookupOf s sought
-    looked-up r h told = (rw g at told) ∙ sym (opened-lookup e (rw g at h))
+    pub looked-up : (r : Answer) → length sought ≡ l .«key_length» → outcome r ≡ toldOf s l (ended (storedIn s l sought)) → outcome r ≡ lookupOf s sought
+    looked-up r h layoutValues = (rw g at layoutValues) ∙ sym (opened-lookup e (rw g at h))
 
 module _ (s : List ℕ) where
   pub not-bounded : {number place : ℕ} → opening s ≡ refused number place → refusal number place ≡ boundOf s

@@ -7,7 +7,7 @@ use Rattle.field.specs.Number.{bigAt, littleAt}
 use Rattle.key.specs.Order.{compared, decided}
 use Rattle.refusal.specs.Outcome.{Outcome, answered, absent}
 use Rattle.halving.specs.Halving.{halve, halving, halvedOnce}
-use Rattle.index.specs.Layout.{layoutOf, layoutFrom, pagesFor, entrySize, full, onPage, entryAt, lastKeyAt}
+use Rattle.index_layout.specs.Layout.{layoutOf, layoutFrom, pagesFor, entrySize, full, onPage, entryAt, lastKeyAt}
 use Rattle.lookup.specs.Lookup.{storedIn, slotHalved, endedAt, endedOn, pageHalved, endedFrom, ended, sizeAt, locationAt, toldOf}
 
 -- the page, its last key, its hash, and the footer
@@ -21,13 +21,13 @@ one =
 abbrev pub none : List ℕ
 none = 212 ∷ 29 ∷ 140 ∷ 217 ∷ 143 ∷ 0 ∷ 178 ∷ 4 ∷ 0 ∷ 0 ∷ 0 ∷ 4 ∷ 4 ∷ 4 ∷ 1 ∷ 8 ∷ 0 ∷ 0 ∷ 0 ∷ 0 ∷ 24 ∷ 251 ∷ 70 ∷ 41 ∷ 203 ∷ 57 ∷ 225 ∷ 42 ∷ []
 
--- What is told once an index is opened.
-abbrev pub told : List ℕ → List ℕ → Outcome
-told s sought = toldOf s (layoutOf s) (ended (storedIn s (layoutOf s) sought))
+-- What is layoutValues once an index is opened.
+abbrev pub layoutValues : List ℕ → List ℕ → Outcome
+layoutValues s sought = toldOf s (layoutOf s) (ended (storedIn s (layoutOf s) sought))
 
-pub m4 : (told one (5 ∷ []) ≡ answered (0 ∷ 0 ∷ 7 ∷ 9 ∷ 3 ∷ []))
-    × (told one (4 ∷ []) ≡ absent (0 ∷ 0 ∷ 0 ∷ 0 ∷ 3 ∷ []))
-    × (told one (6 ∷ []) ≡ absent (0 ∷ 0 ∷ 0 ∷ 0 ∷ 1 ∷ []))
-    × (told none (5 ∷ []) ≡ absent (0 ∷ 0 ∷ 0 ∷ 0 ∷ 0 ∷ []))
+pub m4 : (layoutValues one (5 ∷ []) ≡ answered (0 ∷ 0 ∷ 7 ∷ 9 ∷ 3 ∷ []))
+    × (layoutValues one (4 ∷ []) ≡ absent (0 ∷ 0 ∷ 0 ∷ 0 ∷ 3 ∷ []))
+    × (layoutValues one (6 ∷ []) ≡ absent (0 ∷ 0 ∷ 0 ∷ 0 ∷ 1 ∷ []))
+    × (layoutValues none (5 ∷ []) ≡ absent (0 ∷ 0 ∷ 0 ∷ 0 ∷ 0 ∷ []))
 unfolding toldOf ended endedFrom endedOn endedAt pageHalved slotHalved storedIn halve halving halvedOnce layoutFrom pagesFor entrySize full onPage entryAt lastKeyAt littleAt bigAt compared decided sizeAt locationAt
 m4 = (refl, refl, refl, refl)

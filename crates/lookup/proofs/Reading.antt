@@ -4,13 +4,13 @@ use mathlib.Core.Bool.{Bool, true, false}
 use mathlib.Core.List.{List}
 use Prim.Native.Nat.{ℕ, zero, suc, _+_, _≤_, _<_}
 use native.Mathlib.Omega.{arith}
-use Rattle.field.specs.Part.{sameBytes}
-use Rattle.field.proofs.Laws.{sameBytes-not}
+use Rattle.parts.specs.Part.{sameBytes}
+use Rattle.parts.proofs.Laws.{sameBytes-not}
 use Rattle.key.specs.Order.{isEqual}
 use Rattle.key.proofs.Laws.{equal-of-eq}
 use Rattle.halving.proofs.Laws.{by-order}
-use Rattle.index.specs.declared.layout.Layout.{Layout}
-use Rattle.index.specs.Layout.{onPage, layoutOf, keyAt}
+use Rattle.index_layout.specs.declared.Layout.{Layout}
+use Rattle.index_layout.specs.Layout.{onPage, layoutOf, keyAt}
 use Rattle.lookup.specs.Lookup.{storedIn, Ended, sizeAt, locationAt, toldOf}
 use Rattle.lookup.specs.Plain.{Plain, found, absent, entriesFrom, pagesFrom, plainReading, withCount}
 use Rattle.lookup.proofs.Laws.{equal-is-same}
@@ -48,7 +48,7 @@ module _ (s : List ℕ) (l : Layout) (sought : List ℕ) where
       (λ m. let same : p ≡ q = omega arith in
       rw same (entries-found q 0 (onPage l q) j _ (omega arith) (omega arith) inside e))
 
--- What is told of an end that is settled is what the plain reading says, with the comparisons.
+-- What is layoutValues of an end that is settled is what the plain reading says, with the comparisons.
 module _ (s sought : List ℕ) (e : Ended) (end : Settled (storedIn s (layoutOf s) sought) e) where
   reads-found : e .found ≡ true
       → plainReading s sought ≡ found (e .page) (e .slot) (sizeAt s (layoutOf s) (e .page) (e .slot)) (locationAt s (layoutOf s) (e .page) (e .slot))

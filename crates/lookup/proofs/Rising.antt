@@ -6,8 +6,8 @@ use Prim.Native.Nat.{ℕ, zero, suc, _-_, _≤_, _<_}
 use native.Mathlib.Nat.{zero-add}
 use native.Mathlib.Omega.{arith}
 use borrow.Author.Tests.{not-false}
-use Rattle.field.specs.Part.{partAt}
-use Rattle.field.proofs.Laws.{sameBytes-eq}
+use Rattle.parts.specs.Part.{partAt}
+use Rattle.parts.proofs.Laws.{sameBytes-eq}
 use Rattle.key.specs.declared.Order.{Order}
 use Rattle.key.specs.declared.Order.the-variants.{Below, Equal, Above}
 use Rattle.key.specs.Order.{compared}
@@ -16,8 +16,8 @@ use Rattle.refusal.specs.Check.{silent, first, firstFrom}
 use Rattle.refusal.specs.Number.{index-order, last-key}
 use Rattle.refusal.proofs.Laws.{first-left, first-right, silent-test, from-each}
 use Rattle.halving.proofs.Laws.{by-order}
-use Rattle.index.specs.declared.layout.Layout.{Layout}
-use Rattle.index.specs.Layout.{onPage, lastKeyAt, keyAt}
+use Rattle.index_layout.specs.declared.Layout.{Layout}
+use Rattle.index_layout.specs.Layout.{onPage, lastKeyAt, keyAt}
 use Rattle.index.specs.Check.{pageHashCheck, paddingCheck, orderCheck, lastKeyCheck, pageCheck, pagesCheck, notAbove}
 use Rattle.index.proofs.Laws.{not-above-first, not-above-next}
 use Rattle.lookup.specs.Lookup.{storedIn}
@@ -36,7 +36,7 @@ module _ (s : List ℕ) (l : Layout) (passed : pagesCheck s l ≡ silent) where
     unfolding pageCheck
     rest-silent = first-right (paddingCheck s l p) _ (first-right (pageHashCheck s l p) _ page-silent)
 
-    last-is : partAt s (lastKeyAt l p) (l .key) ≡ keyAt s l p (onPage l p - 1)
+    last-is : partAt s (lastKeyAt l p) (l .«key_length») ≡ keyAt s l p (onPage l p - 1)
     unfolding lastKeyCheck
     last-is = sameBytes-eq _ _ (not-false _ (silent-test _ last-key p (first-right _ _ rest-silent)))
 

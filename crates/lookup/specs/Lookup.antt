@@ -5,7 +5,7 @@ use Prim.Native.Nat.{ℕ, _+_, _/_, _%_, _^_}
 use lib.Dec.{ltb, eqb}
 use lib.ListN.{length}
 use Rattle.field.specs.Number.{bigAt}
-use Rattle.field.specs.Part.{partAt}
+use Rattle.parts.specs.Part.{partAt}
 use Rattle.key.specs.declared.Order.{Order}
 use Rattle.key.specs.Order.{compared, isBelow, isEqual}
 use Rattle.refusal.specs.Check.{Check, refusedIf, first}
@@ -13,9 +13,9 @@ use Rattle.refusal.specs.Number.{index-key-length}
 use Rattle.refusal.specs.Outcome.{Outcome, answered, absent, refusal, after}
 use Rattle.halving.specs.declared.Halved.{Halved}
 use Rattle.halving.specs.Halving.{halve, digits}
-use Rattle.index.specs.declared.layout.Layout.{Layout}
-use Rattle.index.specs.Layout.{full, onPage, entryAt, lastKeyAt, layoutOf, keyAt}
-use Rattle.index.specs.Check.{opening}
+use Rattle.index_layout.specs.declared.Layout.{Layout}
+use Rattle.index_layout.specs.Layout.{full, onPage, entryAt, lastKeyAt, layoutOf, keyAt}
+use Rattle.index_open.specs.Open.{opening}
 use Rattle.lookup.specs.declared.Answer.{Answer}
 use Rattle.lookup.specs.declared.Answer.the-variants.{Found, Absent, Refused}
 use Rattle.lookup.specs.declared.Bounded as bounded
@@ -32,7 +32,7 @@ unfoldable pub storedIn : List ℕ → Layout → List ℕ → Stored
 storedIn s l sought = record {
   pages = l .pages;
   entries = onPage l;
-  last = λ p. compared (partAt s (lastKeyAt l p) (l .key)) sought;
+  last = λ p. compared (partAt s (lastKeyAt l p) (l .«key_length»)) sought;
   key = λ p i. compared (keyAt s l p i) sought;
 }
 
@@ -70,10 +70,10 @@ ended k = endedFrom k (pageHalved k)
 
 -- The size and the location of an entry, which follow its key.
 unfoldable pub sizeAt : List ℕ → Layout → ℕ → ℕ → ℕ
-sizeAt s l p i = bigAt s (entryAt l p i + l .key) 4
+sizeAt s l p i = bigAt s (entryAt l p i + l .«key_length») 4
 
 unfoldable pub locationAt : List ℕ → Layout → ℕ → ℕ → ℕ
-locationAt s l p i = bigAt s (entryAt l p i + l .key + 4) (l .offset)
+locationAt s l p i = bigAt s (entryAt l p i + l .«key_length» + 4) (l .«offset_width»)
 
 -- With W = 6 the location is archive number (2 bytes), then offset (4).
 abbrev pub archiveOf : ℕ → ℕ
@@ -82,7 +82,7 @@ archiveOf location = location / 2 ^ 32
 abbrev pub offsetOf : ℕ → ℕ
 offsetOf location = location % 2 ^ 32
 
--- What is told of where a lookup ends: page, slot, size, location and comparisons; of an absent key, the comparisons.
+-- What is layoutValues of where a lookup ends: page, slot, size, location and comparisons; of an absent key, the comparisons.
 unfoldable pub toldOf : List ℕ → Layout → Ended → Outcome
 toldOf s l e =
     cond (e .found)
@@ -91,7 +91,7 @@ toldOf s l e =
 
 -- 10: the sought key is not K bytes.
 unfoldable pub keyCheck : Layout → List ℕ → Check
-keyCheck l sought = refusedIf (not (eqb (length sought) (l .key))) index-key-length 0
+keyCheck l sought = refusedIf (not (eqb (length sought) (l .«key_length»))) index-key-length 0
 
 -- The lookup: 1 to 5, 10, then the halving rule.
 unfoldable pub lookupOf : List ℕ → List ℕ → Outcome

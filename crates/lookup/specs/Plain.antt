@@ -2,11 +2,11 @@
 use mathlib.Core.Bool.{cond}
 use mathlib.Core.List.{List, [], _∷_}
 use Prim.Native.Nat.{ℕ, zero, suc}
-use Rattle.field.specs.Part.{sameBytes}
+use Rattle.parts.specs.Part.{sameBytes}
 use Rattle.refusal.specs.Outcome as outcome
 use Rattle.refusal.specs.Outcome.{Outcome, answered}
-use Rattle.index.specs.declared.layout.Layout.{Layout}
-use Rattle.index.specs.Layout.{onPage, layoutOf, keyAt}
+use Rattle.index_layout.specs.declared.Layout.{Layout}
+use Rattle.index_layout.specs.Layout.{onPage, layoutOf, keyAt}
 use Rattle.lookup.specs.Lookup.{sizeAt, locationAt}
 
 pub data Plain : Type 0 where

@@ -1,14 +1,14 @@
 // The lookup of a key in an archive index, by the halving rule, and how many stored keys it may compare.
 use field::big;
-use field::equal;
-use field::part;
 use halving::Halved;
 use halving::digits;
 use halving::halve;
-use index::Checked;
-use index::Layout;
-use index::Page;
-use index::Slot;
+use index_layout::Layout;
+use index_layout::Page;
+use index_layout::Slot;
+use index_open::Checked;
+use parts::equal;
+use parts::part;
 use refusal::INDEX_KEY_LENGTH;
 use refusal::Refusal;
 ghost use mathlib.Core.Path.{_≡_};
@@ -56,17 +56,17 @@ pub fn offset(location: u64) -> u32
 
 // Halves over the last keys.
 fn find_page(index: &[u8], l: Layout, key: &[u8]) -> Halved
-    requires { ⌜ length (now key) ≡ l .key ⌝ }
+    requires { ⌜ length (now key) ≡ l .«key_length» ⌝ }
     ensures { λ r. ⌜ r ≡ spec.pageHalved (spec.storedIn (now (index .entry)) l (now (key .entry))) ⌝ }
     ensures { λ r. ⌜ r .count ≤ 32 ⌝ }
 {
     let last_keys = part(index, l.last_key_at(Page(0)), index.len());
-    halve(last_keys, l.key as u16, l.pages, key)
+    halve(last_keys, l.key_length as u16, l.pages, key)
 }
 
 // Halves over a page's entries.
 fn find_slot(index: &[u8], l: Layout, key: &[u8], page: Page) -> Halved
-    requires { ⌜ length (now key) ≡ l .key ⌝ }
+    requires { ⌜ length (now key) ≡ l .«key_length» ⌝ }
     ensures { λ r. ⌜ r ≡ spec.slotHalved (spec.storedIn (now (index .entry)) l (now (key .entry))) (page .0) ⌝ }
     ensures { λ r. ⌜ r .count ≤ 32 ⌝ }
 {
@@ -76,12 +76,12 @@ fn find_slot(index: &[u8], l: Layout, key: &[u8], page: Page) -> Halved
 
 // The entry in a slot.
 fn found(index: &[u8], l: Layout, page: Page, slot: Slot, compared: u32) -> Answer
-    requires { ⌜ l .offset ≤ 8 ⌝ }
+    requires { ⌜ l .«offset_width» ≤ 8 ⌝ }
     ensures { λ r. ⌜ spec.outcome r ≡ answered (page .0 ∷ slot .0 ∷ spec.sizeAt (now (index .entry)) l (page .0) (slot .0) ∷ spec.locationAt (now (index .entry)) l (page .0) (slot .0) ∷ compared ∷ []) ⌝ }
 {
-    let at = l.entry_at(page, slot) + l.key as usize;
+    let at = l.entry_at(page, slot) + l.key_length as usize;
     let size = big(index, at, 4) as u32;
-    let location = big(index, at + 4, l.offset as usize);
+    let location = big(index, at + 4, l.offset_width as usize);
     Answer::Found(Entry {
         page,
         slot,
@@ -93,7 +93,7 @@ fn found(index: &[u8], l: Layout, page: Page, slot: Slot, compared: u32) -> Answ
 
 // A page's entries, after some comparisons of last keys.
 fn seek_on(index: &[u8], l: Layout, key: &[u8], page: Page, count: u32) -> Answer
-    requires { ⌜ (length (now key) ≡ l .key) × (l .offset ≤ 8) × (count ≤ 32) ⌝ }
+    requires { ⌜ (length (now key) ≡ l .«key_length») × (l .«offset_width» ≤ 8) × (count ≤ 32) ⌝ }
     ensures { λ r. ⌜ spec.outcome r ≡ spec.toldOf (now (index .entry)) l (spec.endedOn (spec.storedIn (now (index .entry)) l (now (key .entry))) (page .0) count) ⌝ }
 {
     let halved = find_slot(index, l, key, page);
@@ -103,7 +103,7 @@ fn seek_on(index: &[u8], l: Layout, key: &[u8], page: Page, count: u32) -> Answe
         return Answer::Absent(compared);
     }
     let at = l.entry_at(page, Slot(slot));
-    if !equal(part(index, at, l.key as usize), key) {
+    if !equal(part(index, at, l.key_length as usize), key) {
         return Answer::Absent(compared + 1);
     }
     found(index, l, page, Slot(slot), compared + 1)
@@ -111,7 +111,7 @@ fn seek_on(index: &[u8], l: Layout, key: &[u8], page: Page, count: u32) -> Answe
 
 // The last keys, then the entries of the page that they tell.
 fn seek(index: &[u8], l: Layout, key: &[u8]) -> Answer
-    requires { ⌜ (length (now key) ≡ l .key) × (l .offset ≤ 8) ⌝ }
+    requires { ⌜ (length (now key) ≡ l .«key_length») × (l .«offset_width» ≤ 8) ⌝ }
     ensures { λ r. ⌜ spec.outcome r ≡ spec.toldOf (now (index .entry)) l (spec.ended (spec.storedIn (now (index .entry)) l (now (key .entry)))) ⌝ }
 {
     let halved = find_page(index, l, key);
@@ -126,10 +126,10 @@ fn seek(index: &[u8], l: Layout, key: &[u8]) -> Answer
 pub fn lookup(index: &[u8], key: &[u8]) -> Answer
     ensures { λ r. ⌜ spec.outcome r ≡ spec.lookupOf (now (index .entry)) (now (key .entry)) ⌝ }
 {
-    match index::open(index) {
+    match index_open::open(index) {
         Checked::Refused(r) => Answer::Refused(r),
         Checked::Passed(l) => {
-            if key.len() != l.key as usize {
+            if key.len() != l.key_length as usize {
                 return Answer::Refused(Refusal {
                     number: INDEX_KEY_LENGTH,
                     place: 0,
@@ -144,7 +144,7 @@ pub fn lookup(index: &[u8], key: &[u8]) -> Answer
 pub fn bound(index: &[u8]) -> Bounded
     ensures { λ r. ⌜ spec.boundOutcome r ≡ spec.boundOf (now (index .entry)) ⌝ }
 {
-    match index::open(index) {
+    match index_open::open(index) {
         Checked::Refused(r) => Bounded::Refused(r),
         Checked::Passed(l) => Bounded::Comparisons(digits(l.pages) + digits(l.full() as u32) + 1),
     }

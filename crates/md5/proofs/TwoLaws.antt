@@ -4,7 +4,7 @@ use mathlib.Core.Bool.{false, cond}
 use mathlib.Core.List.{List, _++_}
 use Prim.Native.Nat.{ℕ, _+_, _-_, _*_, _/_}
 use lib.ListN.{length, take, drop, replicate}
-use Rattle.field.proofs.Laws.{part-to-end}
+use Rattle.parts.proofs.Laws.{part-to-end}
 use Rattle.md5.specs.declared.block.Words.{Words}
 use Rattle.md5.specs.declared.two.Two.{Two}
 use Rattle.md5.specs.Block.{steps, wordsOf, sum, block}

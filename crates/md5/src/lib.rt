@@ -1,5 +1,5 @@
 // MD5 (RFC 1321) over bytes that come in parts.
-use field::copy;
+use parts::copy;
 use refusal::HASH_LIMIT;
 use refusal::Verdict;
 use refusal::refuse;

@@ -56,6 +56,20 @@ first-quiet later e = ap (λ k. first k later) e
 pub skip : {k later r : Check} → k ≡ silent → later ≡ r → first k later ≡ r
 skip {later = later} e p = first-quiet later e ∙ p
 
+pub first-assoc : (a b c : Check) → first (first a b) c ≡ first a (first b c)
+unfolding first
+first-assoc silent b c = refl
+first-assoc (refused number place) b c = refl
+
+-- a sequence, after a verdict
+pub first-refused : (v : Verdict) (later : Check) {r : Refusal} → v ≡ Refused r → checkOf v ≡ first (checkOf v) later
+unfolding first checkOf
+first-refused v later e = rw e
+
+pub first-passed : (v : Verdict) (later : Check) → v ≡ Passed → first (checkOf v) later ≡ later
+unfolding first checkOf
+first-passed v later e = rw e
+
 -- the first that speaks of numbered checks: one more, and the end
 pub from-said : (check : ℕ → Check) (i n : ℕ) {number place : ℕ} → 0 < n → check i ≡ refused number place → firstFrom check i n ≡ refused number place
 unfolding firstFrom

@@ -1,8 +1,14 @@
 -- What lent output holds at the end.
 use mathlib.Core.List.{List, _++_}
 use Prim.Native.Nat.{ℕ}
+use lib.Dec.{ltb}
 use lib.ListN.{length, drop}
-use Rattle.refusal.specs.Check.{Check, silent, refused}
+use Rattle.refusal.specs.Check.{Check, silent, refused, refusedIf}
+use Rattle.refusal.specs.Number.{output-short}
+
+-- 13: the output is shorter than the file or list to be written.
+abbrev pub roomCheck : (needed room : ℕ) → Check
+roomCheck needed room = refusedIf (ltb room needed) output-short 0
 
 -- Filled from its start, and bytes past the end of the answer stay; after a refusal every byte stays.
 unfoldable pub filled : Check → List ℕ → List ℕ → List ℕ

@@ -9,9 +9,10 @@ use lib.Dec.{ltb, lit<}
 use lib.ListN.{take, drop}
 use lib.Seq.{getD-drop}
 use borrow.Author.Tests.{lt-ltb, le-ltb, not-true}
-use Rattle.field.specs.Number.{byteAt, bigAt}
-use Rattle.field.specs.Part.{partAt}
-use Rattle.field.proofs.Laws.{bigAt-agree, partAt-byte}
+use Rattle.parts.specs.Part.{byteAt, partAt}
+use Rattle.field.specs.Number.{bigAt}
+use Rattle.parts.proofs.Laws.{partAt-byte}
+use Rattle.field.proofs.Laws.{bigAt-agree}
 use Rattle.key.specs.Order.{compared, isBelow}
 use Rattle.key.specs.declared.Order.the-variants.{Below}
 use Rattle.key.proofs.Laws.{below-of-bigAt}

@@ -2,7 +2,7 @@
 use mathlib.Core.Bool.{Bool, cond}
 use mathlib.Core.List.{List}
 use Prim.Native.Nat.{ℕ, zero, suc, _-_, _*_}
-use Rattle.field.specs.Part.{partAt}
+use Rattle.parts.specs.Part.{partAt}
 use Rattle.key.specs.Order.{compared, isBelow}
 
 -- Whether key i is above the one before it. Key i has `width` bytes from i * `stride` on.

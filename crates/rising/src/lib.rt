@@ -1,9 +1,10 @@
 // Whether keys that lie a fixed number of bytes apart rise strictly.
-use field::part;
+use parts::part;
 ghost use mathlib.Core.Path.{_≡_};
 ghost use Prim.Native.Nat.{_+_, _-_, _≤_, _<_};
 ghost use lib.ListN.{length};
-ghost use Rattle.field.specs.Number.{byteAt, bigAt};
+ghost use Rattle.parts.specs.Part.{byteAt};
+ghost use Rattle.field.specs.Number.{bigAt};
 ghost use Rattle.rising.specs.Fall as spec;
 ghost use Rattle.rising.specs.Skipped.{Skipped};
 

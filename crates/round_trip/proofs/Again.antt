@@ -10,22 +10,23 @@ use lib.Dec.{ltb, leb, eqb}
 use lib.ListN.{length, take, drop, replicate, getD, length-drop}
 use lib.Seq.{take-all, drop-drop, drop-cons, getD-drop}
 use borrow.Author.Tests.{le-ltb, le-leb, eq-eqb, not-false}
-use Rattle.field.specs.Number.{byteAt, littleAt}
-use Rattle.field.specs.Part.{partAt, sameBytes, allZero, overlay}
-use Rattle.field.proofs.Laws.{partAt-inside, sameBytes-eq, allZero-eq, overlay-inside}
-use Rattle.field.proofs.Parts.{part-add, parts-same, parts-of, parts-at}
+use Rattle.parts.specs.Part.{byteAt, partAt, sameBytes, allZero, overlay}
+use Rattle.field.specs.Number.{littleAt}
+use Rattle.parts.proofs.Laws.{partAt-inside, sameBytes-eq, allZero-eq, overlay-inside}
+use Rattle.parts.proofs.Parts.{part-add, parts-same, parts-of, parts-at}
 use Rattle.md5.specs.Message.{md5, littleBytes}
 use Rattle.key.specs.Order.{compared, isBelow}
 use Rattle.refusal.specs.Check.{Check, silent, first, firstFrom}
 use Rattle.refusal.specs.Number as number
 use Rattle.refusal.specs.Number.{index-page-hash, index-padding, index-order, last-key, footer-hash}
 use Rattle.refusal.proofs.Laws.{silent-test, quiet, skip, first-left, first-right, from-each, from-silent}
-use Rattle.index.specs.declared.layout.Layout.{Layout}
-use Rattle.index.specs.Layout.{footer, entrySize, full, onPage, entryAt, lastKeyAt, pageHashAt, indexLength, layoutWith, layoutFrom, layoutOf, pageOf}
-use Rattle.index.specs.Check.{fieldCheck, fieldsCheck, footerHashCheck, footerCheck, shortCheck, lengthCheck, opening, pageHashCheck, paddingCheck, orderCheck, lastKeyCheck, pageCheck, pagesCheck, fullCheck}
-use Rattle.index.specs.Entries.{entriesOf, entriesBy, listOf}
-use Rattle.index.proofs.Laws.{on-page-fits}
-use Rattle.index.proofs.Opened.{Opened, opened, field-range, full-positive, entries-held, list-length, entries-length, page-inside, on-page-full}
+use Rattle.index_layout.specs.declared.Layout.{Layout}
+use Rattle.index_layout.specs.Layout.{footer, entrySize, full, onPage, entryAt, lastKeyAt, pageHashAt, indexLength, layoutWith, layoutFrom, layoutOf, pageOf}
+use Rattle.index_open.specs.Open.{fieldCheck, fieldsCheck, footerHashCheck, footerCheck, shortCheck, lengthCheck, opening}
+use Rattle.index.specs.Check.{pageHashCheck, paddingCheck, orderCheck, lastKeyCheck, pageCheck, pagesCheck, fullCheck}
+use Rattle.index_layout.specs.Entries.{entriesOf, entriesBy, listOf}
+use Rattle.index_layout.proofs.Laws.{on-page-fits}
+use Rattle.index_open.proofs.Opened.{Opened, opened, field-range, full-positive, entries-held, list-length, entries-length, page-inside, on-page-full}
 use Rattle.round_trip.specs.Same.{contentsHashOf, withContentsHash, settingsOf}
 use Rattle.writer.specs.File.{entriesIn, pageIn, lastKeyIn, pageHashIn, pages, lastKeys, pageHashes, fields, footerWith, fileOf}
 use Rattle.writer.specs.Write as write
@@ -86,7 +87,7 @@ module _ (s : List ℕ) (o : Opened s) where
       unfolding pageCheck
       rest-silent = first-right (paddingCheck s l p) _ (first-right (pageHashCheck s l p) _ (page-silent p k))
 
-      last-key-again : partAt s (lastKeyAt l p) (l .key) ≡ lastKeyIn list l p
+      last-key-again : partAt s (lastKeyAt l p) (l .«key_length») ≡ lastKeyIn list l p
       unfolding lastKeyCheck
       last-key-again =
           sameBytes-eq _ _ (not-false _ (silent-test _ last-key p (first-right (firstFrom (orderCheck s l p) 0 (onPage l p)) (lastKeyCheck s l p) rest-silent)))
@@ -128,31 +129,31 @@ module _ (s : List ℕ) (o : Opened s) where
         parts-same (pageIn list l) (pageOf s) 0 (l .pages) (λ p a b. page-again p (omega arith)) ∙ parts-of s 4096 0 (l .pages)
         ∙ ap (λ n. partAt s n (l .pages * 4096)) (zero-mul 4096)
 
-    last-keys-again : lastKeys list l ≡ partAt s (l .pages * 4096) (l .pages * l .key)
+    last-keys-again : lastKeys list l ≡ partAt s (l .pages * 4096) (l .pages * l .«key_length»)
     unfolding lastKeys lastKeyAt
     last-keys-again =
-        parts-same (lastKeyIn list l) (λ p. partAt (drop (l .pages * 4096) s) (p * l .key) (l .key)) 0 (l .pages)
-        (λ p a b. sym (last-key-again p (omega arith)) ∙ ap (take (l .key)) (sym (drop-drop (p * l .key) (l .pages * 4096) s)))
-        ∙ parts-of (drop (l .pages * 4096) s) (l .key) 0 (l .pages) ∙ ap (λ n. partAt (drop (l .pages * 4096) s) n (l .pages * l .key)) (zero-mul (l .key))
+        parts-same (lastKeyIn list l) (λ p. partAt (drop (l .pages * 4096) s) (p * l .«key_length») (l .«key_length»)) 0 (l .pages)
+        (λ p a b. sym (last-key-again p (omega arith)) ∙ ap (take (l .«key_length»)) (sym (drop-drop (p * l .«key_length») (l .pages * 4096) s)))
+        ∙ parts-of (drop (l .pages * 4096) s) (l .«key_length») 0 (l .pages) ∙ ap (λ n. partAt (drop (l .pages * 4096) s) n (l .pages * l .«key_length»)) (zero-mul (l .«key_length»))
 
-    hashes-again : pageHashes list l ≡ partAt s (l .pages * 4096 + l .pages * l .key) (l .pages * 8)
+    hashes-again : pageHashes list l ≡ partAt s (l .pages * 4096 + l .pages * l .«key_length») (l .pages * 8)
     unfolding pageHashes pageHashIn pageHashAt
     hashes-again =
-        parts-same (pageHashIn list l) (λ p. partAt (drop (l .pages * 4096 + l .pages * l .key) s) (p * 8) 8) 0 (l .pages)
-        (λ p a b. ap (λ m. take 8 (md5 m)) (page-again p (omega arith)) ∙ hash-again p (omega arith) ∙ ap (take 8) (sym (drop-drop (p * 8) (l .pages * 4096 + l .pages * l .key) s)))
-        ∙ parts-of (drop (l .pages * 4096 + l .pages * l .key) s) 8 0 (l .pages) ∙ ap (λ n. partAt (drop (l .pages * 4096 + l .pages * l .key) s) n (l .pages * 8)) (zero-mul 8)
+        parts-same (pageHashIn list l) (λ p. partAt (drop (l .pages * 4096 + l .pages * l .«key_length») s) (p * 8) 8) 0 (l .pages)
+        (λ p a b. ap (λ m. take 8 (md5 m)) (page-again p (omega arith)) ∙ hash-again p (omega arith) ∙ ap (take 8) (sym (drop-drop (p * 8) (l .pages * 4096 + l .pages * l .«key_length») s)))
+        ∙ parts-of (drop (l .pages * 4096 + l .pages * l .«key_length») s) 8 0 (l .pages) ∙ ap (λ n. partAt (drop (l .pages * 4096 + l .pages * l .«key_length») s) n (l .pages * 8)) (zero-mul 8)
 
-    pub contents-again : lastKeys list l ++ pageHashes list l ≡ partAt s (l .pages * 4096) (l .pages * (l .key + 8))
+    pub contents-again : lastKeys list l ++ pageHashes list l ≡ partAt s (l .pages * 4096) (l .pages * (l .«key_length» + 8))
     contents-again =
-        ap₂ _++_ last-keys-again hashes-again ∙ sym (part-add s (l .pages * 4096) (l .pages * l .key) (l .pages * 8))
-        ∙ ap (partAt s (l .pages * 4096)) (sym (mul-add (l .pages) (l .key) 8))
+        ap₂ _++_ last-keys-again hashes-again ∙ sym (part-add s (l .pages * 4096) (l .pages * l .«key_length») (l .pages * 8))
+        ∙ ap (partAt s (l .pages * 4096)) (sym (mul-add (l .pages) (l .«key_length») 8))
 
     front-again : pages list l ++ lastKeys list l ++ pageHashes list l ≡ take (length s - 28) s
     unfolding indexLength
     front-again =
-        let size : l .pages * 4096 + l .pages * (l .key + 8) ≡ length s - 28 = omega (arith, o .whole, mul-add (l .pages) 4096 (l .key + 8), ap (λ n. l .pages * n) (add-assoc 4096 (l .key) 8)) in
-        append-assoc (pages list l) (lastKeys list l) (pageHashes list l) ∙ ap₂ _++_ pages-again (contents-again ∙ ap (λ n. partAt s n (l .pages * (l .key + 8))) (sym (zero-add (l .pages * 4096))))
-        ∙ sym (part-add s 0 (l .pages * 4096) (l .pages * (l .key + 8))) ∙ ap (λ n. take n s) size
+        let size : l .pages * 4096 + l .pages * (l .«key_length» + 8) ≡ length s - 28 = omega (arith, o .whole, mul-add (l .pages) 4096 (l .«key_length» + 8), ap (λ n. l .pages * n) (add-assoc 4096 (l .«key_length») 8)) in
+        append-assoc (pages list l) (lastKeys list l) (pageHashes list l) ∙ ap₂ _++_ pages-again (contents-again ∙ ap (λ n. partAt s n (l .pages * (l .«key_length» + 8))) (sym (zero-add (l .pages * 4096))))
+        ∙ sym (part-add s 0 (l .pages * 4096) (l .pages * (l .«key_length» + 8))) ∙ ap (λ n. take n s) size
 
 -- ---- the footer
 -- n bytes from an offset on
@@ -252,7 +253,7 @@ module _ (s : List ℕ) (bytes : (i : ℕ) → byteAt s i < 256) (e : fullCheck 
   unfolding fileOf
   file-again =
       let l : Layout = layoutOf s in
-      let eight : length (contentsHashOf s) ≡ 8 = first-eight-length (partAt s (layoutOf s .pages * 4096) (layoutOf s .pages * (layoutOf s .key + 8))) in
+      let eight : length (contentsHashOf s) ≡ 8 = first-eight-length (partAt s (layoutOf s .pages * 4096) (layoutOf s .pages * (layoutOf s .«key_length» + 8))) in
       let rest : drop 8 (footer s) ≡ drop (length s - 28 + length (contentsHashOf s)) s = drop-drop 8 (length s - 28) s ∙ ap (λ n. drop (length s - 28 + n) s) (sym eight) in
       ap₂ _++_ (front-again s known pages-silent)
       (footer-again (footer s) foot-length foot-bytes fields-silent (lastKeys (listOf s) l ++ pageHashes (listOf s) l) hash-silent
@@ -263,22 +264,22 @@ module _ (s : List ℕ) (bytes : (i : ℕ) → byteAt s i < 256) (e : fullCheck 
   -- and its settings and list are not refused
   entries-again-count : entryCount (settingsOf (layoutOf s)) (listOf s) ≡ layoutOf s .entries
   unfolding entryCount write.entrySize entrySize settingsOf
-  entries-again-count = ap (λ n. n / (layoutOf s .key + 4 + layoutOf s .offset)) (list-length s known) ∙ mul-div-cancel (layoutOf s .entries) (omega arith)
+  entries-again-count = ap (λ n. n / (layoutOf s .«key_length» + 4 + layoutOf s .«offset_width»)) (list-length s known) ∙ mul-div-cancel (layoutOf s .entries) (omega arith)
 
   pub layout-again : layoutFor (settingsOf (layoutOf s)) (listOf s) ≡ layoutOf s
   unfolding layoutFor layoutFrom settingsOf
-  layout-again = ap (layoutWith (layoutOf s .version) (layoutOf s .offset) (layoutOf s .key)) entries-again-count
+  layout-again = ap (layoutWith (layoutOf s .version) (layoutOf s .«offset_width») (layoutOf s .«key_length»)) entries-again-count
 
   right-again : settingsRight (settingsOf (layoutOf s)) ≡ true
   unfolding settingsRight within settingsOf layoutFrom
   right-again =
       ap₂ _&&_ (ap₂ _&&_ (le-leb 0 (layoutOf s .version) (omega arith)) (le-leb (layoutOf s .version) 1 version-again))
-      (ap₂ _&&_ (ap₂ _&&_ (le-leb 4 (layoutOf s .offset) (known .offset-low)) (le-leb (layoutOf s .offset) 6 (known .offset-high)))
-      (ap₂ _&&_ (le-leb 1 (layoutOf s .key) (known .key-low)) (le-leb (layoutOf s .key) 16 (known .key-high))))
+      (ap₂ _&&_ (ap₂ _&&_ (le-leb 4 (layoutOf s .«offset_width») (known .offset-low)) (le-leb (layoutOf s .«offset_width») 6 (known .offset-high)))
+      (ap₂ _&&_ (le-leb 1 (layoutOf s .«key_length») (known .key-low)) (le-leb (layoutOf s .«key_length») 16 (known .key-high))))
 
   whole-again : length (listOf s) % write.entrySize (settingsOf (layoutOf s)) ≡ 0
   unfolding write.entrySize entrySize settingsOf
-  whole-again = ap (λ n. n % (layoutOf s .key + 4 + layoutOf s .offset)) (list-length s known) ∙ mul-mod-left (layoutOf s .entries) (layoutOf s .key + 4 + layoutOf s .offset)
+  whole-again = ap (λ n. n % (layoutOf s .«key_length» + 4 + layoutOf s .«offset_width»)) (list-length s known) ∙ mul-mod-left (layoutOf s .entries) (layoutOf s .«key_length» + 4 + layoutOf s .«offset_width»)
 
   entry-silent : (i : ℕ) → 1 ≤ i → i < layoutOf s .entries → write.orderCheck (settingsOf (layoutOf s)) (listOf s) i ≡ silent
   unfolding write.orderCheck keyIn write.entrySize entrySize settingsOf

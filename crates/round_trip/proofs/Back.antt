@@ -10,21 +10,22 @@ use lib.Dec.{ltb, leb, eqb}
 use lib.ListN.{length, take, drop, replicate, length-append, length-drop, length-replicate}
 use lib.Seq.{take-at, drop-at, take-all}
 use borrow.Author.Tests.{le-ltb, le-leb, eq-eqb}
-use Rattle.field.specs.Number.{byteAt, littleAt}
-use Rattle.field.specs.Part.{partAt, sameBytes, allZero}
-use Rattle.field.proofs.Laws.{part-of-part, sameBytes-of-eq, allZero-replicate}
-use Rattle.field.proofs.Parts.{part-after, parts-same, parts-of, parts-part}
+use Rattle.parts.specs.Part.{byteAt, partAt, sameBytes, allZero}
+use Rattle.field.specs.Number.{littleAt}
+use Rattle.parts.proofs.Laws.{part-of-part, sameBytes-of-eq, allZero-replicate}
+use Rattle.parts.proofs.Parts.{part-after, parts-same, parts-of, parts-part}
 use Rattle.md5.specs.Message.{md5, digestOf, littleBytes}
 use Rattle.key.specs.Order.{compared, isBelow}
 use Rattle.refusal.specs.Check.{Check, silent, first}
 use Rattle.refusal.specs.Number.{index-short, footer-field, footer-hash, entry-count, index-length, index-page-hash, index-padding, index-order, last-key}
 use Rattle.refusal.proofs.Laws.{quiet, skip, from-silent}
-use Rattle.index.specs.declared.layout.Layout.{Layout}
-use Rattle.index.specs.Layout.{footer, entrySize, full, onPage, entryAt, lastKeyAt, pageHashAt, indexLength, layoutWith, layoutFrom, layoutOf, pageOf}
-use Rattle.index.specs.Check.{fieldCheck, fieldsCheck, footerHashCheck, footerCheck, opening, pageHashCheck, paddingCheck, notAbove, orderCheck, lastKeyCheck, pageCheck, pagesCheck, fullCheck}
-use Rattle.index.specs.Entries.{entriesOf, entriesBy, listOf}
-use Rattle.index.proofs.Laws.{on-page-fits, on-page-full}
-use Rattle.index.proofs.Opened.{pages-hold}
+use Rattle.index_layout.specs.declared.Layout.{Layout}
+use Rattle.index_layout.specs.Layout.{footer, entrySize, full, onPage, entryAt, lastKeyAt, pageHashAt, indexLength, layoutWith, layoutFrom, layoutOf, pageOf}
+use Rattle.index_open.specs.Open.{fieldCheck, fieldsCheck, footerHashCheck, footerCheck, opening}
+use Rattle.index.specs.Check.{pageHashCheck, paddingCheck, notAbove, orderCheck, lastKeyCheck, pageCheck, pagesCheck, fullCheck}
+use Rattle.index_layout.specs.Entries.{entriesOf, entriesBy, listOf}
+use Rattle.index_layout.proofs.Laws.{on-page-fits, on-page-full}
+use Rattle.index_open.proofs.Opened.{pages-hold}
 use Rattle.writer.specs.declared.Settings.{Settings}
 use Rattle.writer.specs.File.{entriesIn, pageIn, lastKeyIn, pageHashIn, pages, lastKeys, pageHashes, fields, footerWith, fileOf}
 use Rattle.writer.specs.Write as write
@@ -50,16 +51,16 @@ module _ (l : Layout) (contents : List ℕ) where
   footer-count h = omega arith
 
   -- and tell the layout
-  footer-layout : l .entries < 4294967296 → l ≡ layoutWith (l .version) (l .offset) (l .key) (l .entries) → layoutFrom (footerWith l contents) ≡ l
+  footer-layout : l .entries < 4294967296 → l ≡ layoutWith (l .version) (l .«offset_width») (l .«key_length») (l .entries) → layoutFrom (footerWith l contents) ≡ l
   unfolding layoutFrom footerWith fields md5 digestOf littleBytes
-  footer-layout h e = ap (layoutWith (l .version) (l .offset) (l .key)) (footer-count h) ∙ sym e
+  footer-layout h e = ap (layoutWith (l .version) (l .«offset_width») (l .«key_length»)) (footer-count h) ∙ sym e
 
 field-quiet : (f : List ℕ) (at low high x : ℕ) → byteAt f at ≡ x → low ≤ x → x ≤ high → fieldCheck f at low high ≡ silent
 unfolding fieldCheck
 field-quiet f at low high x e h k =
     quiet footer-field 0 refl (ap (λ n. not (leb low n && leb n high)) e ∙ ap₂ (λ a b. not (a && b)) (le-leb low x h) (le-leb x high k))
 
-module _ (l : Layout) (contents : List ℕ) (v : l .version ≤ 1) (o : (4 ≤ l .offset) × (l .offset ≤ 6)) (k : (1 ≤ l .key) × (l .key ≤ 16)) where
+module _ (l : Layout) (contents : List ℕ) (v : l .version ≤ 1) (o : (4 ≤ l .«offset_width») × (l .«offset_width» ≤ 6)) (k : (1 ≤ l .«key_length») × (l .«key_length» ≤ 16)) where
   fields-quiet : fieldsCheck (footerWith l contents) ≡ silent
   unfolding fieldsCheck footerWith fields md5 digestOf littleBytes
   fields-quiet =
@@ -67,9 +68,9 @@ module _ (l : Layout) (contents : List ℕ) (v : l .version ≤ 1) (o : (4 ≤ l
       (skip (field-quiet _ 9 0 0 0 refl (omega arith) (omega arith))
       (skip (field-quiet _ 10 0 0 0 refl (omega arith) (omega arith))
       (skip (field-quiet _ 11 4 4 4 refl (omega arith) (omega arith))
-      (skip (field-quiet _ 12 4 6 (l .offset) refl (o .0) (o .1))
+      (skip (field-quiet _ 12 4 6 (l .«offset_width») refl (o .0) (o .1))
       (skip (field-quiet _ 13 4 4 4 refl (omega arith) (omega arith))
-      (skip (field-quiet _ 14 1 16 (l .key) refl (k .0) (k .1))
+      (skip (field-quiet _ 14 1 16 (l .«key_length») refl (k .0) (k .1))
       (field-quiet _ 15 8 8 8 refl (omega arith) (omega arith))))))))
 
   hash-quiet : footerHashCheck (footerWith l contents) ≡ silent
@@ -112,20 +113,20 @@ module _ (list : List ℕ) (l : Layout) (h : Held list l) where
   pub page-is : (p : ℕ) → p < l .pages → pageOf file p ≡ pageIn list l p
   page-is p k = ap (λ s. partAt s (p * 4096) 4096) pages-first ∙ page-there list l h _ p k
 
-  last-key-is : (p : ℕ) → p < l .pages → partAt file (lastKeyAt l p) (l .key) ≡ lastKeyIn list l p
+  last-key-is : (p : ℕ) → p < l .pages → partAt file (lastKeyAt l p) (l .«key_length») ≡ lastKeyIn list l p
   unfolding lastKeyAt lastKeys
   last-key-is p k =
-      ap (λ s. partAt s (l .pages * 4096 + p * l .key) (l .key)) pages-first
-      ∙ part-after (pages list l) (lastKeys list l ++ (pageHashes list l ++ footerWith l contents)) (p * l .key) (l .pages * 4096) (l .key) (pages-length list l h)
-      ∙ parts-part (lastKeyIn list l) (l .key) (l .pages) (pageHashes list l ++ footerWith l contents) (last-key-length list l h) p k
+      ap (λ s. partAt s (l .pages * 4096 + p * l .«key_length») (l .«key_length»)) pages-first
+      ∙ part-after (pages list l) (lastKeys list l ++ (pageHashes list l ++ footerWith l contents)) (p * l .«key_length») (l .pages * 4096) (l .«key_length») (pages-length list l h)
+      ∙ parts-part (lastKeyIn list l) (l .«key_length») (l .pages) (pageHashes list l ++ footerWith l contents) (last-key-length list l h) p k
 
   page-hash-is : (p : ℕ) → p < l .pages → partAt file (pageHashAt l p) 8 ≡ pageHashIn list l p
   unfolding pageHashAt pageHashes pageHashIn
   page-hash-is p k =
-      let at : l .pages * 4096 + l .pages * l .key + p * 8 ≡ l .pages * 4096 + (l .pages * l .key + p * 8) = omega arith in
+      let at : l .pages * 4096 + l .pages * l .«key_length» + p * 8 ≡ l .pages * 4096 + (l .pages * l .«key_length» + p * 8) = omega arith in
       ap₂ (λ s n. partAt s n 8) pages-first at
-      ∙ part-after (pages list l) (lastKeys list l ++ (pageHashes list l ++ footerWith l contents)) (l .pages * l .key + p * 8) (l .pages * 4096) 8 (pages-length list l h)
-      ∙ part-after (lastKeys list l) (pageHashes list l ++ footerWith l contents) (p * 8) (l .pages * l .key) 8 (last-keys-length list l h)
+      ∙ part-after (pages list l) (lastKeys list l ++ (pageHashes list l ++ footerWith l contents)) (l .pages * l .«key_length» + p * 8) (l .pages * 4096) 8 (pages-length list l h)
+      ∙ part-after (lastKeys list l) (pageHashes list l ++ footerWith l contents) (p * 8) (l .pages * l .«key_length») 8 (last-keys-length list l h)
       ∙ parts-part (pageHashIn list l) 8 (l .pages) (footerWith l contents) (λ j m. first-eight-length (pageIn list l j)) p k
 
   -- a page's entries and its padding
@@ -232,7 +233,7 @@ module _ (s : Settings) (list : List ℕ) (room : ℕ) (quiet-write : writeCheck
   stored : Held list l
   stored = held s list room given
 
-  ranges : (l .version ≤ 1) × (((4 ≤ l .offset) × (l .offset ≤ 6)) × ((1 ≤ l .key) × (l .key ≤ 16)))
+  ranges : (l .version ≤ 1) × (((4 ≤ l .«offset_width») × (l .«offset_width» ≤ 6)) × ((1 ≤ l .«key_length») × (l .«key_length» ≤ 16)))
   unfolding layoutFor
   ranges = (given .version, ((given .offset-low, given .offset-high), (given .key-low, given .key-high)))
 

@@ -8,22 +8,23 @@ use lib.Dec.{ltb}
 use lib.ListN.{length, take, drop}
 use lib.Seq.{take-at}
 use borrow.Author.Tests.{le-ltb}
-use Rattle.field.specs.Number.{byteAt}
-use Rattle.field.proofs.Laws.{overlay-length}
+use Rattle.parts.specs.Part.{byteAt}
+use Rattle.parts.proofs.Laws.{overlay-length}
 use Rattle.refusal.specs.Check.{silent}
 use Rattle.refusal.specs.Number.{output-short}
 use Rattle.refusal.specs.Outcome.{answered}
 use Rattle.refusal.specs.Output.{filled}
 use Rattle.refusal.proofs.Laws.{quiet, skip, first-left, after-quiet, answered-after}
-use Rattle.index.specs.declared.layout.Layout.{Layout}
-use Rattle.index.specs.declared.Checked.{Checked}
-use Rattle.index.specs.declared.Checked.the-variants.{Passed}
-use Rattle.index.specs.Layout.{indexLength, layoutOf}
+use Rattle.index_layout.specs.declared.Layout.{Layout}
+use Rattle.index_open.specs.declared.Checked.{Checked}
+use Rattle.index_open.specs.declared.Checked.the-variants.{Passed}
+use Rattle.index_layout.specs.Layout.{indexLength, layoutOf}
 use Rattle.index.specs.Check as index
-use Rattle.index.specs.Check.{opening, pagesCheck, fullCheck, told}
-use Rattle.index.specs.Entries.{listOf}
-use Rattle.index.proofs.Laws.{passed-index}
-use Rattle.index.proofs.Opened.{opened}
+use Rattle.index_open.specs.Open.{opening, layoutValues}
+use Rattle.index.specs.Check.{pagesCheck, fullCheck}
+use Rattle.index_layout.specs.Entries.{listOf}
+use Rattle.index_open.proofs.Laws.{passed-index}
+use Rattle.index_open.proofs.Opened.{opened}
 use Rattle.entries.specs.declared.Listed.{Listed}
 use Rattle.entries.specs.declared.Listed.the-variants.{Written}
 use Rattle.entries.specs.List as list
@@ -121,10 +122,10 @@ module _ (t : Settings) (entries : List ℕ) (answer : written.Written) (n : ℕ
       ap (take n) (stored ∙ ap (λ k. filled k (fileOf entries (layoutFor t entries)) room) (write-told .0)) ∙ begins (fileOf entries (layoutFor t entries)) room n file-told
 
   -- the full check of the file that was written passes, with the settings and the entry count
-  pub demand2-checked : (checked : Checked) → index.outcome checked ≡ index.checkOutcome (take n output) → index.outcome checked ≡ answered (told (layoutFor t entries))
+  pub demand2-checked : (checked : Checked) → index.outcome checked ≡ index.checkOutcome (take n output) → index.outcome checked ≡ answered (layoutValues (layoutFor t entries))
   demand2-checked checked check =
       check ∙ ap index.checkOutcome file-read
-      ∙ after-quiet _ (full-quiet t entries (length room) (write-told .0)) ∙ ap (λ l. answered (told l)) (layout-back t entries (length room) (write-told .0))
+      ∙ after-quiet _ (full-quiet t entries (length room) (write-told .0)) ∙ ap (λ l. answered (layoutValues l)) (layout-back t entries (length room) (write-told .0))
 
   -- and its list is the list
   pub demand2-listed : (listed : Listed) (before after : List ℕ) → length entries ≤ length before → list.outcome listed ≡ listOutcome (take n output) (length before)

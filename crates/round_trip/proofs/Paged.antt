@@ -7,22 +7,22 @@ use native.Mathlib.Nat.{add-mul, mul-assoc, mul-le-mul-right, one-mul, suc-mul}
 use native.Mathlib.Omega.{arith}
 use lib.Dec.{eqb}
 use borrow.Author.Tests.{ne-eqb}
-use Rattle.field.specs.Part.{partAt}
-use Rattle.field.proofs.Laws.{part-of-part}
+use Rattle.parts.specs.Part.{partAt}
+use Rattle.parts.proofs.Laws.{part-of-part}
 use Rattle.key.specs.Order.{compared, isBelow}
-use Rattle.index.specs.declared.layout.Layout.{Layout}
-use Rattle.index.specs.Layout.{entrySize, full, onPage, entryAt, keyAt}
+use Rattle.index_layout.specs.declared.Layout.{Layout}
+use Rattle.index_layout.specs.Layout.{entrySize, full, onPage, entryAt, keyAt}
 use Rattle.index.specs.Check.{keyBefore, notAbove}
-use Rattle.index.specs.Entries.{entriesOf}
-use Rattle.index.proofs.Laws.{key-within}
-use Rattle.index.proofs.Opened.{pages-tight}
+use Rattle.index_layout.specs.Entries.{entriesOf}
+use Rattle.index_layout.proofs.Laws.{key-within}
+use Rattle.index_open.proofs.Opened.{pages-tight}
 use Rattle.writer.specs.File.{entriesIn, lastKeyIn}
 use Rattle.writer.specs.Stored.{Held}
 use Rattle.writer.proofs.Parts.{full-positive, some-on-page}
 
 -- The key of entry g of a list.
 abbrev pub keyOf : List ℕ → Layout → ℕ → List ℕ
-keyOf list l g = partAt list (g * entrySize l) (l .key)
+keyOf list l g = partAt list (g * entrySize l) (l .«key_length»)
 
 pub record Same (s list : List ℕ) (l : Layout) : Type 0 where
   pub held : Held list l
@@ -38,12 +38,12 @@ module _ (s list : List ℕ) (l : Layout) (e : Same s list l) where
   pub key-same : (p i : ℕ) → p < l .pages → i < onPage l p → keyAt s l p i ≡ keyOf list l (p * full l + i)
   unfolding entryAt
   key-same p i k n =
-      let inside : i * entrySize l + l .key ≤ onPage l p * entrySize l = omega (arith, mul-le-mul-right (entrySize l) n, suc-mul i (entrySize l), key-within l) in
+      let inside : i * entrySize l + l .«key_length» ≤ onPage l p * entrySize l = omega (arith, mul-le-mul-right (entrySize l) n, suc-mul i (entrySize l), key-within l) in
       let at : p * (full l * entrySize l) + i * entrySize l ≡ (p * full l + i) * entrySize l = omega (arith, add-mul (p * full l) i (entrySize l), mul-assoc p (full l) (entrySize l)) in
-      sym (part-of-part s (p * 4096) (onPage l p * entrySize l) (i * entrySize l) (l .key) inside)
-      ∙ ap (λ r. partAt r (i * entrySize l) (l .key)) (e .entries p k)
-      ∙ part-of-part list (p * (full l * entrySize l)) (onPage l p * entrySize l) (i * entrySize l) (l .key) inside
-      ∙ ap (λ n. partAt list n (l .key)) at
+      sym (part-of-part s (p * 4096) (onPage l p * entrySize l) (i * entrySize l) (l .«key_length») inside)
+      ∙ ap (λ r. partAt r (i * entrySize l) (l .«key_length»)) (e .entries p k)
+      ∙ part-of-part list (p * (full l * entrySize l)) (onPage l p * entrySize l) (i * entrySize l) (l .«key_length») inside
+      ∙ ap (λ n. partAt list n (l .«key_length»)) at
 
   pub last-same : (p : ℕ) → p < l .pages → keyAt s l p (onPage l p - 1) ≡ lastKeyIn list l p
   unfolding lastKeyIn

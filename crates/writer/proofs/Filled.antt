@@ -5,11 +5,11 @@ use Prim.Native.Nat.{ℕ, zero, suc, _+_, _-_, _*_, _≤_}
 use native.Mathlib.Nat.{not-suc-le-zero, le-of-suc-le-suc}
 use native.Mathlib.Omega.{arith}
 use lib.ListN.{length, take, replicate, length-append}
-use Rattle.field.specs.Part.{partAt, partsFrom, overlay}
-use Rattle.field.proofs.Laws.{overlay-after, overlay-before}
-use Rattle.field.proofs.Parts.{part-laid, parts-length}
-use Rattle.index.specs.declared.layout.Layout.{Layout}
-use Rattle.index.specs.Layout.{entrySize, onPage}
+use Rattle.parts.specs.Part.{partAt, partsFrom, overlay}
+use Rattle.parts.proofs.Laws.{overlay-after, overlay-before}
+use Rattle.parts.proofs.Parts.{part-laid, parts-length}
+use Rattle.index_layout.specs.declared.Layout.{Layout}
+use Rattle.index_layout.specs.Layout.{entrySize, onPage}
 use Rattle.md5.specs.Message.{md5, littleBytes}
 use Rattle.writer.specs.File.{entriesIn, pageIn, fields, footerWith}
 use Rattle.writer.proofs.Parts.{first-eight-length}
@@ -34,12 +34,12 @@ page-laid list l p entries zeros out old mid to e z t g m =
     )
 
 -- the footer, one part after the other
-pub footer-laid : (l : Layout) (out first second contents hash unhashed part : List ℕ) (footer : List ℕ) (at : ℕ) → at ≡ l .pages * (4096 + l .key + 8)
-    → contents ≡ partAt out (l .pages * 4096) (l .pages * (l .key + 8)) → hash ≡ take 8 (md5 contents)
+pub footer-laid : (l : Layout) (out first second contents hash unhashed part : List ℕ) (footer : List ℕ) (at : ℕ) → at ≡ l .pages * (4096 + l .«key_length» + 8)
+    → contents ≡ partAt out (l .pages * 4096) (l .pages * (l .«key_length» + 8)) → hash ≡ take 8 (md5 contents)
     → unhashed ≡ fields l ++ replicate 8 0 → part ≡ partAt unhashed 0 12 → footer ≡ take 8 (md5 unhashed)
     → first ≡ overlay out at hash → second ≡ overlay first (at + 8) part
     → overlay second (at + 20) footer
-    ≡ overlay out (l .pages * (4096 + l .key + 8)) (footerWith l (partAt out (l .pages * 4096) (l .pages * (l .key + 8))))
+    ≡ overlay out (l .pages * (4096 + l .«key_length» + 8)) (footerWith l (partAt out (l .pages * 4096) (l .pages * (l .«key_length» + 8))))
 unfolding fields footerWith littleBytes
 footer-laid l out first second contents hash unhashed part footer at t e h u p f o q =
     let n : length hash ≡ 8 = ap length h ∙ first-eight-length contents in

@@ -12,7 +12,7 @@ use Rattle.refusal.specs.Number.{settings, list-length, entry-count, index-orde
 use Rattle.refusal.proofs.Laws.{said, quiet, first-said, skip}
 use Rattle.rising.specs.Fall.{risesAt, fallFrom}
 use Rattle.rising.proofs.Laws.{fall-check, fall-low}
-use Rattle.index.specs.Layout.{indexLength}
+use Rattle.index_layout.specs.Layout.{indexLength}
 use Rattle.writer.specs.declared.Settings.{Settings}
 use Rattle.writer.specs.Write.{entrySize, entryCount, layoutFor, settingsRight, settingsCheck, wholeCheck, countCheck, keyIn, orderCheck, risingCheck, writeCheck}
 

@@ -12,8 +12,8 @@ use Rattle.key.specs.Order.{compared, isBelow}
 use Rattle.refusal.specs.Check.{silent, first}
 use Rattle.refusal.specs.Number.{settings, list-length, entry-count, index-order, output-short}
 use Rattle.refusal.proofs.Laws.{silent-test, first-left, first-right, from-each}
-use Rattle.index.specs.Layout as layout
-use Rattle.index.specs.Layout.{full, indexLength}
+use Rattle.index_layout.specs.Layout as layout
+use Rattle.index_layout.specs.Layout.{full, indexLength}
 use Rattle.writer.specs.declared.Settings.{Settings}
 use Rattle.writer.specs.Write.{within, entrySize, entryCount, layoutFor, settingsRight, settingsCheck, wholeCheck, countCheck, keyIn, orderCheck, risingCheck, roomCheck, writeCheck}
 use Rattle.writer.specs.Stored.{Held}

@@ -2,10 +2,10 @@
 use mathlib.Core.List.{List, _∷_, _++_}
 use Prim.Native.Nat.{ℕ, _+_, _-_, _*_}
 use lib.ListN.{take, replicate}
-use Rattle.field.specs.Part.{partAt, partsFrom}
+use Rattle.parts.specs.Part.{partAt, partsFrom}
 use Rattle.md5.specs.Message.{md5, littleBytes}
-use Rattle.index.specs.declared.layout.Layout.{Layout}
-use Rattle.index.specs.Layout.{entrySize, full, onPage}
+use Rattle.index_layout.specs.declared.Layout.{Layout}
+use Rattle.index_layout.specs.Layout.{entrySize, full, onPage}
 
 -- The entries of page p, which follow those of the full pages before it.
 abbrev pub entriesIn : List ℕ → Layout → ℕ → List ℕ
@@ -17,7 +17,7 @@ pageIn list l p = entriesIn list l p ++ replicate (4096 - onPage l p * entrySize
 
 -- The key of the last entry on page p.
 unfoldable pub lastKeyIn : List ℕ → Layout → ℕ → List ℕ
-lastKeyIn list l p = partAt list ((p * full l + (onPage l p - 1)) * entrySize l) (l .key)
+lastKeyIn list l p = partAt list ((p * full l + (onPage l p - 1)) * entrySize l) (l .«key_length»)
 
 -- The first eight bytes of a page's hash.
 unfoldable pub pageHashIn : List ℕ → Layout → ℕ → List ℕ
@@ -37,7 +37,7 @@ pageHashes list l = partsFrom (pageHashIn list l) 0 (l .pages)
 -- lowest byte first.
 unfoldable pub fields : Layout → List ℕ
 fields l =
-    l .version ∷ 0 ∷ 0 ∷ 4 ∷ l .offset ∷ 4 ∷ l .key ∷ 8 ∷ littleBytes 4 (l .entries)
+    l .version ∷ 0 ∷ 0 ∷ 4 ∷ l .«offset_width» ∷ 4 ∷ l .«key_length» ∷ 8 ∷ littleBytes 4 (l .entries)
 
 -- The footer: the contents hash, the fields and the footer hash.
 unfoldable pub footerWith : Layout → List ℕ → List ℕ

@@ -3,10 +3,10 @@ use mathlib.Core.Path.{_≡_}
 use mathlib.Core.List.{List}
 use Prim.Native.Nat.{ℕ, _*_, _≤_}
 use lib.ListN.{length, take}
-use Rattle.field.specs.Part.{partAt, partsFrom}
+use Rattle.parts.specs.Part.{partAt, partsFrom}
 use Rattle.md5.specs.Message.{md5}
-use Rattle.index.specs.declared.layout.Layout.{Layout}
-use Rattle.index.specs.Layout.{entrySize, full, pagesFor}
+use Rattle.index_layout.specs.declared.Layout.{Layout}
+use Rattle.index_layout.specs.Layout.{entrySize, full, pagesFor}
 
 -- The list has the entries of the layout, and the pages are those that the entries take.
 pub record Held (list : List ℕ) (l : Layout) : Type 0 where

@@ -1,17 +1,17 @@
 // The bytes of an index, part by part.
-use field::copy;
-use field::part;
-use index::Layout;
-use index::Page;
 use index::page_hashes;
+use index_layout::Layout;
+use index_layout::Page;
+use parts::copy;
+use parts::part;
 ghost use mathlib.Core.Path.{_≡_};
 ghost use mathlib.Core.List.{_++_};
 ghost use Prim.Native.Nat.{_+_, _*_, _≤_};
 ghost use lib.ListN.{length, replicate};
 ghost use Rattle.refusal.specs.Check.{silent};
 ghost use Rattle.refusal.specs.Output.{filled};
-ghost use Rattle.field.specs.Part.{partAt, overlay};
-ghost use Rattle.index.specs.Layout as layout;
+ghost use Rattle.parts.specs.Part.{partAt, overlay};
+ghost use Rattle.index_layout.specs.Layout as layout;
 ghost use Rattle.writer.specs.File as file;
 ghost use Rattle.writer.specs.Stored.{Held, hashesOf};
 
@@ -49,7 +49,7 @@ fn write_last_keys(list: &[u8], l: Layout, output: &mut [u8])
     while p < pages {
         let slot = l.last_slot(Page(p));
         let last = p as usize * full + slot.0 as usize;
-        let key = part(list, last * size, l.key as usize);
+        let key = part(list, last * size, l.key_length as usize);
         copy(key, output, to);
         to += key.len();
         p += 1;
@@ -58,7 +58,7 @@ fn write_last_keys(list: &[u8], l: Layout, output: &mut [u8])
 
 // The hash of each page that the output begins with.
 fn write_page_hashes(l: Layout, output: &mut [u8])
-    ensures { λ _. ⌜ now (output .exit) ≡ overlay (now (output .entry)) (l .pages * 4096 + l .pages * l .key) (hashesOf (now (output .entry)) l) ⌝ }
+    ensures { λ _. ⌜ now (output .exit) ≡ overlay (now (output .entry)) (l .pages * 4096 + l .pages * l .«key_length») (hashesOf (now (output .entry)) l) ⌝ }
 {
     let pages = l.pages;
     let mut to = l.page_hash_at(Page(0));
@@ -83,8 +83,8 @@ fn unhashed_fields(l: Layout) -> [u8; 20]
     ensures { λ r. ⌜ r ≡ file.fields l ++ replicate 8 0 ⌝ }
 {
     let version = l.version;
-    let offset = l.offset;
-    let key = l.key;
+    let offset = l.offset_width;
+    let key = l.key_length;
     let n = l.entries;
     let a = (n % 256) as u8;
     let b = (n / 256 % 256) as u8;
@@ -116,11 +116,15 @@ fn unhashed_fields(l: Layout) -> [u8; 20]
 
 // The footer, after the last keys and the page hashes that stand in the output.
 fn write_footer(l: Layout, output: &mut [u8])
-    ensures { λ _. ⌜ now (output .exit) ≡ overlay (now (output .entry)) (l .pages * (4096 + l .key + 8)) (file.footerWith l (partAt (now (output .entry)) (l .pages * 4096) (l .pages * (l .key + 8)))) ⌝ }
+    ensures { λ _. ⌜ now (output .exit) ≡ overlay (now (output .entry)) (l .pages * (4096 + l .«key_length» + 8)) (file.footerWith l (partAt (now (output .entry)) (l .pages * 4096) (l .pages * (l .«key_length» + 8)))) ⌝ }
 {
     let at = l.length() - 28;
     let pages = l.pages as usize;
-    let contents = md5::first_eight(part(output, pages * 4096, pages * (l.key as usize + 8)));
+    let contents = md5::first_eight(part(
+        output,
+        pages * 4096,
+        pages * (l.key_length as usize + 8),
+    ));
     let contents_hash = contents.bytes;
     let fields = unhashed_fields(l);
     let footer = md5::first_eight(&fields);

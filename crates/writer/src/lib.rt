@@ -1,7 +1,14 @@
 // Writing an archive index from its settings and its list.
-use index::Checked;
-use index::Layout;
-use index::MOST_ENTRIES;
+use field::within;
+use index_layout::LEAST_KEY_LENGTH;
+use index_layout::LEAST_OFFSET_WIDTH;
+use index_layout::LEAST_VERSION;
+use index_layout::Layout;
+use index_layout::MOST_ENTRIES;
+use index_layout::MOST_KEY_LENGTH;
+use index_layout::MOST_OFFSET_WIDTH;
+use index_layout::MOST_VERSION;
+use index_open::Checked;
 use refusal::ENTRY_COUNT;
 use refusal::INDEX_ORDER;
 use refusal::LIST_LENGTH;
@@ -12,7 +19,7 @@ ghost use mathlib.Core.Path.{_≡_};
 ghost use lib.ListN.{length};
 ghost use Rattle.refusal.specs.Outcome.{answered, refusal, after};
 ghost use Rattle.refusal.specs.Output.{filled};
-ghost use Rattle.index.specs.Check as check;
+ghost use Rattle.index_open.specs.Open as check;
 ghost use Rattle.writer.specs.File.{fileOf};
 ghost use Rattle.writer.specs.Write as spec;
 
@@ -21,8 +28,8 @@ mod file;
 // What an index is written with, beside its list: version, offset width and key length.
 pub struct Settings {
     pub version: u8,
-    pub offset: u8,
-    pub key: u8,
+    pub offset_width: u8,
+    pub key_length: u8,
 }
 
 // What writing answers: the bytes of the file, or a refusal.
@@ -37,35 +44,37 @@ fn refuse(number: u32, place: usize) -> Checked
     Checked::Refused(Refusal { number, place })
 }
 
-fn within(x: u8, low: u8, high: u8) -> bool
-    ensures { λ r. ⌜ r ≡ spec.within x low high ⌝ }
-{
-    low <= x && x <= high
-}
-
 fn settings_right(settings: Settings) -> bool
     ensures { λ r. ⌜ r ≡ spec.settingsRight settings ⌝ }
 {
-    if !within(settings.version, 0, 1) {
-        return false;
-    }
-    if !within(settings.offset, 4, 6) {
-        return false;
-    }
-    within(settings.key, 1, 16)
+    within(
+        settings.version as u32,
+        LEAST_VERSION as u32,
+        MOST_VERSION as u32,
+    )
+        && within(
+            settings.offset_width as u32,
+            LEAST_OFFSET_WIDTH as u32,
+            MOST_OFFSET_WIDTH as u32,
+        )
+        && within(
+            settings.key_length as u32,
+            LEAST_KEY_LENGTH as u32,
+            MOST_KEY_LENGTH as u32,
+        )
 }
 
 // Refusals 11, 12, 4, 8 and 13, and the layout of the file.
 fn judge(settings: Settings, list: &[u8], room: usize) -> Checked
-    ensures { λ r. ⌜ check.outcome r ≡ after (spec.writeCheck settings (now (list .entry)) room) (answered (check.told (spec.layoutFor settings (now (list .entry))))) ⌝ }
+    ensures { λ r. ⌜ check.outcome r ≡ after (spec.writeCheck settings (now (list .entry)) room) (answered (check.layoutValues (spec.layoutFor settings (now (list .entry))))) ⌝ }
 {
     if !settings_right(settings) {
         return refuse(SETTINGS, 0);
     }
     let version = settings.version;
-    let offset = settings.offset;
-    let key = settings.key;
-    let size = Layout::new(version, offset, key, 0).entry_size();
+    let offset_width = settings.offset_width;
+    let key_length = settings.key_length;
+    let size = Layout::new(version, offset_width, key_length, 0).entry_size();
     if list.len() % size != 0 {
         return refuse(LIST_LENGTH, 0);
     }
@@ -74,11 +83,11 @@ fn judge(settings: Settings, list: &[u8], room: usize) -> Checked
         return refuse(ENTRY_COUNT, 0);
     }
     let count = entries as u32;
-    let fall = rising::fall(list, size as u16, key, count);
+    let fall = rising::fall(list, size as u16, key_length, count);
     if fall < count {
         return refuse(INDEX_ORDER, fall as usize);
     }
-    let l = Layout::new(version, offset, key, count);
+    let l = Layout::new(version, offset_width, key_length, count);
     if room < l.length() {
         return refuse(OUTPUT_SHORT, 0);
     }

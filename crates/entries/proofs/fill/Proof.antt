@@ -7,10 +7,10 @@ use native.Mathlib.Omega.{arith}
 use lib.ListN.{length, drop}
 use borrow.Author.Needs.{needs}
 use Rattle.refusal.specs.Output.{filled}
-use Rattle.field.specs.Part.{partAt, partsFrom}
-use Rattle.field.proofs.Parts.{filled-length, parts-room, part-turn}
-use Rattle.index.specs.Entries.{entriesOf, entriesBy}
-use Rattle.index.proofs.Laws.{on-page-fits}
+use Rattle.parts.specs.Part.{partAt, partsFrom}
+use Rattle.parts.proofs.Parts.{filled-length, parts-room, part-turn}
+use Rattle.index_layout.specs.Entries.{entriesOf, entriesBy}
+use Rattle.index_layout.proofs.Laws.{on-page-fits}
 use Rattle.entries.proofs.fill.Statement.{statement}
 use Rattle.entries.proofs.fill.Tie as tie
 

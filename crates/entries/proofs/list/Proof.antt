@@ -9,10 +9,11 @@ use Rattle.refusal.specs.Outcome.{answered}
 use Rattle.refusal.specs.Output.{filled}
 use Rattle.refusal.specs.Number.{output-short}
 use Rattle.refusal.proofs.Laws.{said, quiet, first-said, skip, after-said, after-quiet}
-use Rattle.index.specs.Layout.{layoutOf}
+use Rattle.index_layout.specs.Layout.{layoutOf}
 use Rattle.index.specs.Check.{fullCheck}
-use Rattle.index.specs.Entries.{listOf}
-use Rattle.index.proofs.Laws.{bound, refused-index}
+use Rattle.index_layout.specs.Entries.{listOf}
+use Rattle.index_layout.proofs.Laws.{bound}
+use Rattle.index_open.proofs.Laws.{refused-index}
 use Rattle.entries.specs.List.{listCheck, outcome}
 use Rattle.entries.proofs.Laws.{passed-list}
 use borrow.Author.Needs.{needs}

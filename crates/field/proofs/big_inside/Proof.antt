@@ -6,7 +6,8 @@ use native.Mathlib.Numerals.{add-one}
 use native.Mathlib.Omega.{arith}
 use borrow.Author.Needs.{needs}
 use lib.Dec.{lit<}
-use Rattle.field.specs.Number.{byteAt, bigAt}
+use Rattle.parts.specs.Part.{byteAt}
+use Rattle.field.specs.Number.{bigAt}
 use Rattle.field.proofs.Laws.{bigAt-below, bigAt-last, one-more-fits}
 use Rattle.field.proofs.big_inside.Statement.{statement}
 use Rattle.field.proofs.big_inside.Tie as tie

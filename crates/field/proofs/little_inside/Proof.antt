@@ -5,7 +5,8 @@ use native.Mathlib.Nat.{add-zero, sub-zero, sub-self}
 use native.Mathlib.Omega.{arith}
 use borrow.Author.Needs.{needs}
 use lib.Dec.{lit<}
-use Rattle.field.specs.Number.{byteAt, littleAt}
+use Rattle.parts.specs.Part.{byteAt}
+use Rattle.field.specs.Number.{littleAt}
 use Rattle.field.proofs.Laws.{littleAt-below, littleAt-first, one-more-fits}
 use Rattle.field.proofs.little_inside.Statement.{statement}
 use Rattle.field.proofs.little_inside.Tie as tie

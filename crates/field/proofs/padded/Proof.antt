@@ -1,8 +1,8 @@
 -- `field::padded` meets its contract: zeros with the part laid over them read as the part.
 use mathlib.Core.Path.{_∙_}
 use borrow.Author.Needs.{needs}
-use Rattle.field.specs.Part.{partAt}
-use Rattle.field.proofs.Laws.{overlay-zeros, partAt-byte}
+use Rattle.parts.specs.Part.{partAt}
+use Rattle.parts.proofs.Laws.{overlay-zeros, partAt-byte}
 use Rattle.field.proofs.padded.Statement.{statement}
 use Rattle.field.proofs.padded.Tie as tie
 

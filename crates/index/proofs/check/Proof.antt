@@ -1,9 +1,10 @@
 -- `index::check`: 1 to 5, then the pages.
 use mathlib.Core.Path.{sym, ap, _∙_}
 use Rattle.refusal.proofs.Laws.{first-said, skip, refused-is, passed-is, after-said, after-quiet}
-use Rattle.index.specs.Layout.{layoutOf}
-use Rattle.index.specs.Check.{opening, pagesCheck, fullCheck, outcome}
-use Rattle.index.proofs.Laws.{passed-index, refused-index}
+use Rattle.index_layout.specs.Layout.{layoutOf}
+use Rattle.index_open.specs.Open.{opening, outcome}
+use Rattle.index.specs.Check.{pagesCheck, fullCheck}
+use Rattle.index_open.proofs.Laws.{passed-index, refused-index}
 use borrow.Author.Needs.{needs}
 use Rattle.index.proofs.check.Statement.{statement}
 use Rattle.index.proofs.check.Tie as tie

@@ -3,9 +3,9 @@ use mathlib.Core.Path.{_≡_, ap}
 use Prim.Native.Nat.{_-_, _≤_}
 use native.Mathlib.Omega.{arith}
 use borrow.Author.Needs.{needs}
-use Rattle.field.specs.Part.{partsFrom}
-use Rattle.index.specs.Layout.{onPage}
-use Rattle.index.proofs.Laws.{on-page-most}
+use Rattle.parts.specs.Part.{partsFrom}
+use Rattle.index_layout.specs.Layout.{onPage}
+use Rattle.index_layout.proofs.Laws.{on-page-most}
 use Rattle.listing.specs.Put.{Put}
 use Rattle.listing.specs.Listing.{line, pageText}
 use Rattle.listing.proofs.PutLaws.{put-none, put-same, put-length, put-part, part-ends}

@@ -3,7 +3,7 @@ use mathlib.Core.Path.{_≡_, ap}
 use Prim.Native.Nat.{_-_, _≤_}
 use native.Mathlib.Omega.{arith}
 use borrow.Author.Needs.{needs}
-use Rattle.field.specs.Part.{partsFrom}
+use Rattle.parts.specs.Part.{partsFrom}
 use Rattle.listing.specs.Put.{Put}
 use Rattle.listing.specs.Listing.{pageText, pagesText}
 use Rattle.listing.proofs.PutLaws.{put-none, put-same, put-length, put-part, part-ends}

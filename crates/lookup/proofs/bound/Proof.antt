@@ -1,7 +1,7 @@
 -- `lookup::bound` meets its contract.
-use Rattle.index.specs.Layout.{layoutOf}
-use Rattle.index.specs.Check.{opening}
-use Rattle.index.proofs.Laws.{passed-index, refused-index}
+use Rattle.index_layout.specs.Layout.{layoutOf}
+use Rattle.index_open.specs.Open.{opening}
+use Rattle.index_open.proofs.Laws.{passed-index, refused-index}
 use Rattle.lookup.specs.Lookup.{boundOutcome}
 use Rattle.lookup.proofs.Laws.{not-bounded, bounded-by}
 use borrow.Author.Needs.{needs}

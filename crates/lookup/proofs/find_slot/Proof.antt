@@ -1,6 +1,6 @@
 -- `lookup::find_slot` meets its contract: a page's entries stand one after the other, each with its key first.
 use native.Mathlib.Omega.{arith}
-use Rattle.index.proofs.Laws.{on-page-most}
+use Rattle.index_layout.proofs.Laws.{on-page-most}
 use Rattle.lookup.proofs.Laws.{slot-halved}
 use borrow.Author.Needs.{needs}
 use Rattle.lookup.proofs.find_slot.Statement.{statement}

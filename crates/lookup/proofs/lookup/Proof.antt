@@ -1,7 +1,7 @@
 -- `lookup::lookup` meets its contract: 1 to 5, 10, then the halving.
-use Rattle.index.specs.Layout.{layoutOf}
-use Rattle.index.specs.Check.{opening}
-use Rattle.index.proofs.Laws.{passed-index, refused-index}
+use Rattle.index_layout.specs.Layout.{layoutOf}
+use Rattle.index_open.specs.Open.{opening}
+use Rattle.index_open.proofs.Laws.{passed-index, refused-index}
 use Rattle.lookup.specs.Lookup.{outcome}
 use Rattle.lookup.proofs.Laws.{width-fits, not-opened, other-length, looked-up}
 use borrow.Author.Needs.{needs}

@@ -3,8 +3,8 @@ use mathlib.Core.Path.{_≡_, sym, ap, _∙_}
 use Prim.Native.Nat.{_-_, _*_, _/_, _%_}
 use lib.ListN.{length, take, drop}
 use lib.Seq.{length-take-le}
-use Rattle.field.specs.Part.{overlay}
-use Rattle.field.proofs.Laws.{part-to-end}
+use Rattle.parts.specs.Part.{overlay}
+use Rattle.parts.proofs.Laws.{part-to-end}
 use Rattle.md5.proofs.MessageLaws.{absorb-short, absorb-long}
 use borrow.Author.Needs.{needs}
 use Rattle.md5.proofs.absorb.Statement.{statement}

@@ -7,7 +7,7 @@ use native.Mathlib.Nat.{zero-add}
 use lib.ListN.{length}
 use Rattle.refusal.specs.Check.{refusedIf, checkOf}
 use Rattle.md5.specs.Message.{tooLong, whole, padding, digestOf}
-use Rattle.field.proofs.Laws.{part-to-end}
+use Rattle.parts.proofs.Laws.{part-to-end}
 use Rattle.md5.proofs.MessageLaws.{md5-whole}
 use borrow.Author.Needs.{needs}
 use Rattle.md5.proofs.digest.Statement.{statement}

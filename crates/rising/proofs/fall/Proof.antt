@@ -4,7 +4,7 @@ use Prim.Native.Nat.{_+_, _-_, _*_, _≤_, _<_}
 use native.Mathlib.Omega.{arith}
 use borrow.Author.Needs.{needs}
 use borrow.Author.Tests.{not-true, not-false}
-use Rattle.field.specs.Part.{partAt}
+use Rattle.parts.specs.Part.{partAt}
 use Rattle.rising.specs.Fall.{fallFrom}
 use Rattle.rising.proofs.Laws.{at-fits, at-least, before-at, falls, rises-on, none-left, told-at}
 use Rattle.rising.proofs.fall.Statement.{statement}

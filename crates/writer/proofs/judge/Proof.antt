@@ -3,9 +3,9 @@ use mathlib.Core.Path.{_≡_, sym, ap, _∙_}
 use borrow.Author.Tests.{not-true, not-false}
 use Rattle.refusal.specs.Outcome.{answered}
 use Rattle.refusal.proofs.Laws.{after-said, after-quiet}
-use Rattle.index.specs.Check.{told, outcome}
-use Rattle.index.specs.Layout as layout
-use Rattle.index.specs.Layout.{indexLength}
+use Rattle.index_open.specs.Open.{layoutValues, outcome}
+use Rattle.index_layout.specs.Layout as layout
+use Rattle.index_layout.specs.Layout.{indexLength}
 use Rattle.writer.specs.Write.{entrySize, entryCount, layoutFor}
 use Rattle.writer.proofs.Laws.{judged-11, judged-12, judged-4, judged-8, judged-13, judged-none}
 use borrow.Author.Needs.{needs}
@@ -113,7 +113,7 @@ returns-6 c =
     let size : c .before .before .before .before .before .before .before .entry-size .result ≡ entrySize s = c .before .before .before .before .before .before .before .entry-size .ensures .0 ∙ ap layout.entrySize (c .before .before .before .before .before .before .before .before .new .ensures) in
     let made = rw size at (c .before .before .new2 .ensures) in
     let room = c .before .length .ensures ∙ ap indexLength made in
-    ap (λ l. answered (told l)) made ∙ sym (after-quiet _ (judged-none s t (a .room) (sym (c .before .before .before .before .before .before .before .before .before .before .settings-right .ensures) ∙ not-false _ (c .before .before .before .before .before .before .before .before .before .if1 .left)) (rw size at (c .before .before .before .before .before .before .if2 .left)) (rw size at (c .before .before .before .before .before .if3 .left)) (c .before .before .before .before .fall .result) (rw size at (c .before .before .before .before .fall .ensures)) (rw size at (c .before .before .before .if4 .left)) (rw room at (c .if5 .left))))
+    ap (λ l. answered (layoutValues l)) made ∙ sym (after-quiet _ (judged-none s t (a .room) (sym (c .before .before .before .before .before .before .before .before .before .before .settings-right .ensures) ∙ not-false _ (c .before .before .before .before .before .before .before .before .before .if1 .left)) (rw size at (c .before .before .before .before .before .before .if2 .left)) (rw size at (c .before .before .before .before .before .if3 .left)) (c .before .before .before .before .fall .result) (rw size at (c .before .before .before .before .fall .ensures)) (rw size at (c .before .before .before .if4 .left)) (rw room at (c .if5 .left))))
 
 pub judge-spec : {M : Type 1} → statement M
 judge-spec =

@@ -1,6 +1,6 @@
 -- `writer::refuse`: a refusal's number and place.
 use mathlib.Core.Path.{refl}
-use Rattle.index.specs.Check.{outcome}
+use Rattle.index_open.specs.Open.{outcome}
 use Rattle.writer.proofs.refuse.Statement.{statement}
 use Rattle.writer.proofs.refuse.Tie as tie
 

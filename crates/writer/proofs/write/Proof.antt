@@ -7,8 +7,8 @@ use Rattle.refusal.specs.Outcome.{answered}
 use Rattle.refusal.specs.Check.{silent}
 use Rattle.refusal.specs.Output.{filled}
 use Rattle.refusal.proofs.Laws.{after-said, after-quiet}
-use Rattle.index.specs.Layout.{indexLength}
-use Rattle.index.proofs.Laws.{passed-index, refused-index}
+use Rattle.index_layout.specs.Layout.{indexLength}
+use Rattle.index_open.proofs.Laws.{passed-index, refused-index}
 use Rattle.writer.specs.File.{fileOf}
 use Rattle.writer.specs.Write.{layoutFor, writeCheck, outcome}
 use Rattle.writer.specs.Stored.{Held}

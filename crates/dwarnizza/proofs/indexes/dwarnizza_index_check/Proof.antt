@@ -1,6 +1,6 @@
 -- `dwarnizza::indexes::dwarnizza_index_check`: what `index::check` answers, laid out.
 use mathlib.Core.Path.{sym, ap, _∙_}
-use Rattle.index.specs.Check.{told, outcome}
+use Rattle.index_open.specs.Open.{layoutValues, outcome}
 use Rattle.dwarnizza.specs.Answer.{result, wordsOf}
 use borrow.Author.Needs.{needs}
 use Rattle.dwarnizza.proofs.indexes.dwarnizza_index_check.Statement.{statement}

@@ -3,11 +3,11 @@ use mathlib.Core.Path.{_≡_, sym, ap, _∙_}
 use mathlib.Core.List.{List, [], _∷_}
 use Prim.Native.Nat.{ℕ}
 use lib.ListN.{length}
-use Rattle.field.specs.Part.{partAt, overlay}
+use Rattle.parts.specs.Part.{partAt, overlay}
 use Rattle.refusal.specs.Outcome.{answered}
 use Rattle.refusal.specs.Output.{filled}
 use Rattle.refusal.proofs.Laws.{refused-is, passed-is, after-said, after-quiet}
-use Rattle.key.proofs.TextLaws.{key-laid-over}
+use Rattle.key_text.proofs.Laws.{key-laid-over}
 use Rattle.dwarnizza.specs.Answer.{result, wordsOf}
 use borrow.Author.Needs.{needs}
 use Rattle.dwarnizza.proofs.keys.dwarnizza_key_text.Statement.{statement}

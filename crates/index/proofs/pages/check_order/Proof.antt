@@ -6,9 +6,10 @@ use native.Mathlib.Omega.{arith}
 use Rattle.refusal.specs.Check.{refused, firstFrom, checkOf}
 use Rattle.refusal.specs.Number.{index-order}
 use Rattle.refusal.proofs.Laws.{from-none}
-use Rattle.index.specs.Layout.{full, onPage}
+use Rattle.index_layout.specs.Layout.{full, onPage}
 use Rattle.index.specs.Check.{orderCheck}
-use Rattle.index.proofs.Laws.{bound, order-said, order-quiet}
+use Rattle.index_layout.proofs.Laws.{bound}
+use Rattle.index.proofs.Laws.{order-said, order-quiet}
 use borrow.Author.Needs.{needs}
 use Rattle.index.proofs.pages.check_order.Statement.{statement}
 use Rattle.index.proofs.pages.check_order.Tie as tie
@@ -26,26 +27,20 @@ returns c =
 first-above-requires : tie.Need-first-above-requires
 first-above-requires c κs = search needs
 
-cast-refuse : tie.Need-cast-refuse
-cast-refuse c = search needs
-
-full-requires : tie.Need-full-requires
-full-requires c κs = search needs
-
-mul-refuse : tie.Need-mul-refuse
-mul-refuse c = omega (arith, bound (c .before .before .before .before .before .before .before .args .page .0) (c .full .result) 4294967295 1024 (omega arith) (omega arith))
+entry-number-requires : tie.Need-entry-number-requires
+entry-number-requires c κs = search needs
 
 refuse-requires : tie.Need-refuse-requires
 refuse-requires c κs = search needs
 
 returns-2 : tie.Need-returns-2
 returns-2 c =
-    let a = c .before .before .before .before .before .before .before .before .args in
+    let a = c .before .before .before .before .before .before .before .args in
     let p = a .page .0 in
     let n = onPage (a .l) p in
-    let some : 0 < n = rw (← c .before .before .before .before .before .before .on-page .ensures) (omega arith) in
-    c .refuse .ensures ∙ ap (λ f. refused index-order (p * f)) (c .before .full .ensures .0) ∙ ap (refused index-order) (sym (add-zero (p * full (a .l))))
-    ∙ sym (order-said (a .index .now) (a .l) p 0 n (c .before .before .before .before .first-above .result) some (c .before .before .before .before .first-above .ensures) (c .before .before .before .if2 .taken))
+    let some : 0 < n = rw (← c .before .before .before .before .before .on-page .ensures) (omega arith) in
+    c .refuse .ensures ∙ ap (refused index-order) (c .before .entry-number .ensures)
+    ∙ sym (order-said (a .index .now) (a .l) p 0 n (c .before .before .before .first-above .result) some (c .before .before .before .first-above .ensures) (c .before .before .if2 .taken))
     ∙ ap (firstFrom (orderCheck (a .index .now) (a .l) p) 0) (sub-zero n)
 
 check-rest-requires : tie.Need-check-rest-requires
@@ -68,9 +63,7 @@ check-order-spec =
     on-page-requires
     returns
     first-above-requires
-    cast-refuse
-    full-requires
-    mul-refuse
+    entry-number-requires
     refuse-requires
     returns-2
     check-rest-requires

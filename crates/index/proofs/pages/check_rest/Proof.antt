@@ -4,7 +4,10 @@ use Prim.Native.Nat.{_+_, _*_}
 use native.Mathlib.Omega.{arith}
 use Rattle.refusal.specs.Check.{refused, checkOf}
 use Rattle.refusal.specs.Number.{index-order}
-use Rattle.index.proofs.Laws.{bound, on-page-most, rest-said, rest-quiet}
+use Rattle.parts.specs.Part.{partAt}
+use Rattle.index_layout.specs.Layout.{pageSize}
+use Rattle.index_layout.proofs.Laws.{bound, on-page-most}
+use Rattle.index.proofs.Laws.{rest-said, rest-quiet}
 use borrow.Author.Needs.{needs}
 use Rattle.index.proofs.pages.check_rest.Statement.{statement}
 use Rattle.index.proofs.pages.check_rest.Tie as tie
@@ -23,11 +26,8 @@ entry-size-requires c κs = search needs
 cast-size : tie.Need-cast-size
 cast-size c = search needs
 
-cast-part : tie.Need-cast-part
-cast-part c = search needs
-
-mul-part : tie.Need-mul-part
-mul-part c = search needs
+page-at-requires : tie.Need-page-at-requires
+page-at-requires c κs = search needs
 
 part-requires : tie.Need-part-requires
 part-requires c κs = search needs
@@ -35,40 +35,26 @@ part-requires c κs = search needs
 fall-requires : tie.Need-fall-requires
 fall-requires c κs = search needs
 
-cast-refuse : tie.Need-cast-refuse
-cast-refuse c = search needs
-
-full-requires : tie.Need-full-requires
-full-requires c κs = search needs
-
-mul-refuse : tie.Need-mul-refuse
-mul-refuse c =
-    omega (arith, bound (c .before .before .before .before .before .before .before .before .before .args .page .0) (c .full .result) 4294967295 1024 (omega arith) (omega arith))
-
-cast-refuse-2 : tie.Need-cast-refuse-2
-cast-refuse-2 c = search needs
-
-add-refuse : tie.Need-add-refuse
-add-refuse c =
-    omega (arith, bound (c .before .before .before .before .before .before .before .before .before .args .page .0) (c .full .result) 4294967295 1024 (omega arith) (omega arith))
+entry-number-requires : tie.Need-entry-number-requires
+entry-number-requires c κs = search needs
 
 refuse-requires : tie.Need-refuse-requires
 refuse-requires c κs = search needs
 
 returns : tie.Need-returns
 returns c =
-    let a = c .before .before .before .before .before .before .before .before .before .before .args in
-    let f = c .before .before .before .before .fall in
-    c .refuse .ensures ∙ ap (λ e. refused index-order (a .page .0 * e + f .result)) (c .before .full .ensures .0)
-    ∙ sym (rest-said (a .index .now) (a .l) (a .page .0) _ _ _ (f .result) (c .before .before .before .before .before .part .ensures) (c .before .before .before .before .before .before .before .entry-size .ensures .0)
-    (c .before .before .before .before .before .before .before .before .on-page .ensures) (f .ensures) (c .before .before .before .if1 .taken))
+    let a = c .before .before .before .before .before .before .before .before .before .args in
+    let f = c .before .before .before .fall in
+    c .refuse .ensures ∙ ap (refused index-order) (c .before .entry-number .ensures)
+    ∙ sym (rest-said (a .index .now) (a .l) (a .page .0) _ _ _ (f .result) (c .before .before .before .before .part .ensures ∙ ap (λ at. partAt (a .index .now) at pageSize) (c .before .before .before .before .before .page-at .ensures)) (c .before .before .before .before .before .before .entry-size .ensures .0)
+    (c .before .before .before .before .before .before .before .on-page .ensures) (f .ensures) (c .before .before .if1 .taken))
 
 returns-2 : tie.Need-returns-2
 unfolding checkOf
 returns-2 c =
     let a = c .before .before .before .before .before .before .before .args in
     let f = c .before .fall in
-    sym (rest-quiet (a .index .now) (a .l) (a .page .0) _ _ _ (f .result) (c .before .before .part .ensures) (c .before .before .before .before .entry-size .ensures .0)
+    sym (rest-quiet (a .index .now) (a .l) (a .page .0) _ _ _ (f .result) (c .before .before .part .ensures ∙ ap (λ at. partAt (a .index .now) at pageSize) (c .before .before .before .page-at .ensures)) (c .before .before .before .before .entry-size .ensures .0)
     (c .before .before .before .before .before .on-page .ensures) (f .ensures) (c .if1 .left))
 
 pub check-rest-spec : {M : Type 1} → statement M
@@ -79,15 +65,10 @@ check-rest-spec =
     cast-count
     entry-size-requires
     cast-size
-    cast-part
-    mul-part
+    page-at-requires
     part-requires
     fall-requires
-    cast-refuse
-    full-requires
-    mul-refuse
-    cast-refuse-2
-    add-refuse
+    entry-number-requires
     refuse-requires
     returns
     returns-2)

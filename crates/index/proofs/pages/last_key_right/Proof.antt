@@ -1,10 +1,10 @@
 -- `index::pages::last_key_right`: the stored key against that of the last entry.
 use mathlib.Core.Path.{ap, _∙_}
 use Rattle.refusal.specs.Number.{last-key}
-use Rattle.field.specs.Part.{partAt}
-use Rattle.index.specs.Layout.{entryAt}
+use Rattle.parts.specs.Part.{partAt}
+use Rattle.index_layout.specs.Layout.{entryAt}
 use Rattle.index.specs.Check.{lastKeyCheck}
-use Rattle.index.proofs.Laws.{hash-told}
+use Rattle.index_open.proofs.Laws.{hash-told}
 use borrow.Author.Needs.{needs}
 use Rattle.index.proofs.pages.last_key_right.Statement.{statement}
 use Rattle.index.proofs.pages.last_key_right.Tie as tie
@@ -38,8 +38,8 @@ returns c =
     let p = a .page .0 in
     let slot = c .before .before .before .before .before .before .last-slot .ensures in
     hash-told _ _ _ _ (c .equal .result) last-key p (c .equal .ensures)
-    (c .before .before .part .ensures ∙ ap (λ at. partAt (a .index .now) at (l .key)) (c .before .before .before .last-key-at .ensures))
-    (c .before .part2 .ensures ∙ ap (λ at. partAt (a .index .now) at (l .key)) (c .before .before .before .before .before .entry-at .ensures ∙ ap (entryAt l p) slot))
+    (c .before .before .part .ensures ∙ ap (λ at. partAt (a .index .now) at (l .«key_length»)) (c .before .before .before .last-key-at .ensures))
+    (c .before .part2 .ensures ∙ ap (λ at. partAt (a .index .now) at (l .«key_length»)) (c .before .before .before .before .before .entry-at .ensures ∙ ap (entryAt l p) slot))
 
 pub last-key-right-spec : {M : Type 1} → statement M
 last-key-right-spec =

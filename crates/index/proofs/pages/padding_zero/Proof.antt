@@ -2,7 +2,7 @@
 use Prim.Native.Nat.{_*_, _≤_}
 use native.Mathlib.Omega.{arith}
 use Rattle.index.specs.Check.{paddingCheck}
-use Rattle.index.proofs.Laws.{on-page-most, on-page-fits}
+use Rattle.index_layout.proofs.Laws.{on-page-most, on-page-fits}
 use borrow.Author.Needs.{needs}
 use Rattle.index.proofs.pages.padding_zero.Statement.{statement}
 use Rattle.index.proofs.pages.padding_zero.Tie as tie

@@ -1,15 +1,18 @@
 -- `index::pages::page_hash_right`: the hash against the stored one.
 use mathlib.Core.Path.{ap, _∙_}
 use Rattle.refusal.specs.Number.{index-page-hash}
-use Rattle.field.specs.Part.{partAt}
+use Rattle.parts.specs.Part.{partAt}
 use Rattle.index.specs.Check.{pageHashCheck}
-use Rattle.index.proofs.Laws.{hash-told}
+use Rattle.index_open.proofs.Laws.{hash-told}
 use borrow.Author.Needs.{needs}
 use Rattle.index.proofs.pages.page_hash_right.Statement.{statement}
 use Rattle.index.proofs.pages.page_hash_right.Tie as tie
 
 page-hash-at-requires : tie.Need-page-hash-at-requires
 page-hash-at-requires c κs = search needs
+
+cast-part : tie.Need-cast-part
+cast-part c = search needs
 
 part-requires : tie.Need-part-requires
 part-requires c κs = search needs
@@ -26,4 +29,4 @@ returns c =
 
 pub page-hash-right-spec : {M : Type 1} → statement M
 page-hash-right-spec =
-    tie.close (tie.spec page-hash-at-requires part-requires equal-requires returns)
+    tie.close (tie.spec page-hash-at-requires cast-part part-requires equal-requires returns)

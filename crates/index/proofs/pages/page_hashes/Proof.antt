@@ -1,21 +1,19 @@
 -- `index::pages::page_hashes`: two pages are short enough to be hashed.
 use mathlib.Core.Path.{_≡_, ap, _∙_}
-use Prim.Native.Nat.{_+_, _*_, _≤_}
+use Prim.Native.Nat.{_+_, _≤_}
 use native.Mathlib.Omega.{arith}
 use lib.ListN.{length, take}
-use Rattle.field.specs.Part.{partAt}
-use Rattle.field.proofs.Laws.{partAt-length}
+use Rattle.parts.specs.Part.{partAt}
+use Rattle.parts.proofs.Laws.{partAt-length}
 use Rattle.md5.specs.Message.{md5}
-use Rattle.index.proofs.Laws.{first-eight-is}
+use Rattle.index_open.proofs.Laws.{first-eight-is}
+use Rattle.index_layout.specs.Layout.{pageSize, pageAt}
 use borrow.Author.Needs.{needs}
 use Rattle.index.proofs.pages.page_hashes.Statement.{statement}
 use Rattle.index.proofs.pages.page_hashes.Tie as tie
 
-cast-at : tie.Need-cast-at
-cast-at c = search needs
-
-mul-at : tie.Need-mul-at
-mul-at c = search needs
+page-at-requires : tie.Need-page-at-requires
+page-at-requires c κs = search needs
 
 part-requires : tie.Need-part-requires
 part-requires c κs = search needs
@@ -33,22 +31,22 @@ returns : tie.Need-returns
 returns c =
     let a = c .before .before .before .before .before .args in
     let s = a .s .now in
-    let at = a .page .0 * 4096 in
+    let p = a .page .0 in
+    let at = c .before .before .before .page-at .ensures in
     let first = c .before .before .part in
     let second = c .before .part2 in
-    let short : length (first .result .now) ≤ 4096 = omega (arith, ap length (first .ensures), partAt-length s at 4096) in
-    let short-next : length (second .result .now) ≤ 4096 = omega (arith, ap length (second .ensures), partAt-length s (at + 4096) 4096) in
-    let next : at + 4096 ≡ (a .page .0 + 1) * 4096 = omega arith in (
-      first-eight-is (first .result .now) _ short (c .first-eight-of-two .ensures .0) ∙ ap (λ m. take 8 (md5 m)) (first .ensures),
-      first-eight-is (second .result .now) _ short-next (c .first-eight-of-two .ensures .1) ∙ ap (λ m. take 8 (md5 m)) (second .ensures ∙ ap (λ n. partAt s n 4096) next),
+    let short : length (first .result .now) ≤ pageSize = omega (arith, ap length (first .ensures), partAt-length s (c .before .before .before .page-at .result) pageSize) in
+    let short-next : length (second .result .now) ≤ pageSize = omega (arith, ap length (second .ensures), partAt-length s (c .before .before .before .page-at .result + pageSize) pageSize) in
+    let next : c .before .before .before .page-at .result + pageSize ≡ pageAt (p + 1) = omega (arith, at) in (
+      first-eight-is (first .result .now) _ short (c .first-eight-of-two .ensures .0) ∙ ap (λ m. take 8 (md5 m)) (first .ensures ∙ ap (λ n. partAt s n pageSize) at),
+      first-eight-is (second .result .now) _ short-next (c .first-eight-of-two .ensures .1) ∙ ap (λ m. take 8 (md5 m)) (second .ensures ∙ ap (λ n. partAt s n pageSize) next),
     )
 
 pub page-hashes-spec : {M : Type 1} → statement M
 page-hashes-spec =
     tie.close
     (tie.spec
-    cast-at
-    mul-at
+    page-at-requires
     part-requires
     add-part
     part-requires-2

@@ -4,9 +4,10 @@ use Prim.Native.Nat.{_+_, _-_, _*_, _≤_, _^_}
 use native.Mathlib.Omega.{arith}
 use lib.Dec.{lit≤}
 use lib.ListN.{length}
-use Rattle.field.proofs.Laws.{partAt-length}
-use Rattle.index.specs.Layout.{indexLength}
-use Rattle.index.proofs.Laws.{bound, first-eight-is, first-eight-within}
+use Rattle.parts.proofs.Laws.{partAt-length}
+use Rattle.index_layout.specs.Layout.{indexLength}
+use Rattle.index_layout.proofs.Laws.{bound}
+use Rattle.index_open.proofs.Laws.{first-eight-is, first-eight-within}
 use Rattle.md5.specs.Message.{littleBytes}
 use Rattle.writer.specs.File.{fields}
 use Rattle.writer.proofs.Filled.{footer-laid}
@@ -37,7 +38,7 @@ add-part c = search needs
 mul-part-2 : tie.Need-mul-part-2
 mul-part-2 c =
     let l = c .before .before .before .before .before .args .l in
-    omega (arith, bound (l .pages) (l .key + 8) 4294967295 263 (omega arith) (omega arith))
+    omega (arith, bound (l .pages) (l .«key_length» + 8) 4294967295 263 (omega arith) (omega arith))
 
 part-requires : tie.Need-part-requires
 part-requires c κs = search needs
@@ -89,9 +90,9 @@ unfolding indexLength fields littleBytes
 returns c =
     let l = c .before .before .before .before .before .before .before .before .before .before .before .before .before .before .before .before .before .before .before .before .before .before .before .before .before .before .before .before .args .l in
     let out = c .before .before .before .before .before .before .before .before .before .before .before .before .before .before .before .before .before .before .before .before .before .before .before .before .before .before .before .before .args .output .now in
-    let at : c .before .before .before .before .before .before .before .before .before .before .before .before .before .before .before .before .before .before .before .before .before .before .before .before .before .before .length .result - 28 ≡ l .pages * (4096 + l .key + 8) = omega (arith, c .before .before .before .before .before .before .before .before .before .before .before .before .before .before .before .before .before .before .before .before .before .before .before .before .before .before .length .ensures) in
+    let at : c .before .before .before .before .before .before .before .before .before .before .before .before .before .before .before .before .before .before .before .before .before .before .before .before .before .before .length .result - 28 ≡ l .pages * (4096 + l .«key_length» + 8) = omega (arith, c .before .before .before .before .before .before .before .before .before .before .before .before .before .before .before .before .before .before .before .before .before .before .before .before .before .before .length .ensures) in
     let contents = c .before .before .before .before .before .before .before .before .before .before .before .before .before .before .before .before .before .before .before .before .before .before .part in
-    let short : length (contents .result .now) ≤ 2 ^ 48 = omega (arith, ap length (contents .ensures), partAt-length out (l .pages * 4096) (l .pages * (l .key + 8)), bound (l .pages) (l .key + 8) 4294967295 263 (omega (arith, c .before .before .before .before .before .before .before .before .before .before .before .before .before .before .before .before .before .before .before .before .before .before .before .before .before .struct-known .given)) (omega (arith, c .before .before .before .before .before .before .before .before .before .before .before .before .before .before .before .before .before .before .before .before .before .before .before .before .before .struct-known .given))) in
+    let short : length (contents .result .now) ≤ 2 ^ 48 = omega (arith, ap length (contents .ensures), partAt-length out (l .pages * 4096) (l .pages * (l .«key_length» + 8)), bound (l .pages) (l .«key_length» + 8) 4294967295 263 (omega (arith, c .before .before .before .before .before .before .before .before .before .before .before .before .before .before .before .before .before .before .before .before .before .before .before .before .before .struct-known .given)) (omega (arith, c .before .before .before .before .before .before .before .before .before .before .before .before .before .before .before .before .before .before .before .before .before .before .before .before .before .struct-known .given))) in
     let twenty : length (c .before .before .before .before .before .before .before .before .before .before .before .before .before .before .before .before .before .before .before .unhashed-fields .result) ≤ 4096 = rw (c .before .before .before .before .before .before .before .before .before .before .before .before .before .before .before .before .before .before .before .unhashed-fields .ensures) (lit≤ tt) in
     c .before .before .copy3 .ensures
     ∙ footer-laid l out _ _ (contents .result .now) _ (c .before .before .before .before .before .before .before .before .before .before .before .before .before .before .before .before .before .before .before .unhashed-fields .result) _ _ _ at (contents .ensures)

@@ -4,10 +4,10 @@ use Prim.Native.Nat.{_+_, _-_, _*_, _≤_}
 use native.Mathlib.Nat.{add-zero}
 use native.Mathlib.Omega.{arith}
 use lib.ListN.{length}
-use Rattle.field.specs.Part.{partAt, partsFrom, overlay}
-use Rattle.field.proofs.Laws.{overlay-none, overlay-length, partAt-length}
-use Rattle.field.proofs.Parts.{part-laid}
-use Rattle.index.proofs.Laws.{bound}
+use Rattle.parts.specs.Part.{partAt, partsFrom, overlay}
+use Rattle.parts.proofs.Laws.{overlay-none, overlay-length, partAt-length}
+use Rattle.parts.proofs.Parts.{part-laid}
+use Rattle.index_layout.proofs.Laws.{bound}
 use Rattle.writer.specs.File.{lastKeyIn, lastKeys}
 use borrow.Author.Needs.{needs}
 use Rattle.writer.proofs.file.write_last_keys.Statement.{statement}
@@ -76,8 +76,8 @@ add-to c =
     let a = c .before .before .before .before .before .before .before .before .before .before .before .before .before .before .args in
     let t = a .list .now in
     let l = c .before .before .before .before .before .before .before .before .before .loop in
-    let key = c .before .before .before .before .part .ensures ∙ ap₂ (λ m n. partAt t (m * n) (a .l .key)) (ap₂ (λ f i. l .p * f + i) (c .before .before .before .before .before .before .before .before .before .before .full .ensures .0) (c .before .before .before .before .before .before .before .last-slot .ensures)) (c .before .before .before .before .before .before .before .before .before .before .before .entry-size .ensures .0) in
-    let short : length (c .before .before .before .before .part .result .now) ≤ 255 = omega (arith, ap length (c .before .before .before .before .part .ensures), partAt-length t ((l .p * c .before .before .before .before .before .before .before .before .before .before .full .result + c .before .before .before .before .before .before .before .last-slot .result .0) * c .before .before .before .before .before .before .before .before .before .before .before .entry-size .result) (a .l .key)) in
+    let key = c .before .before .before .before .part .ensures ∙ ap₂ (λ m n. partAt t (m * n) (a .l .«key_length»)) (ap₂ (λ f i. l .p * f + i) (c .before .before .before .before .before .before .before .before .before .before .full .ensures .0) (c .before .before .before .before .before .before .before .last-slot .ensures)) (c .before .before .before .before .before .before .before .before .before .before .before .entry-size .ensures .0) in
+    let short : length (c .before .before .before .before .part .result .now) ≤ 255 = omega (arith, ap length (c .before .before .before .before .part .ensures), partAt-length t ((l .p * c .before .before .before .before .before .before .before .before .before .before .full .result + c .before .before .before .before .before .before .before .last-slot .result .0) * c .before .before .before .before .before .before .before .before .before .before .before .entry-size .result) (a .l .«key_length»)) in
     let turn = part-laid (lastKeyIn t (a .l)) (l .p) _ (a .output .now) _ (a .l .pages * 4096) _ key (l .inv .2) (l .inv .3) in
     omega arith
 
@@ -93,8 +93,8 @@ loop-again c =
     let a = c .before .before .before .before .before .before .before .before .before .before .before .before .before .before .args in
     let t = a .list .now in
     let l = c .before .before .before .before .before .before .before .before .before .loop in
-    let key = c .before .before .before .before .part .ensures ∙ ap₂ (λ m n. partAt t (m * n) (a .l .key)) (ap₂ (λ f i. l .p * f + i) (c .before .before .before .before .before .before .before .before .before .before .full .ensures .0) (c .before .before .before .before .before .before .before .last-slot .ensures)) (c .before .before .before .before .before .before .before .before .before .before .before .entry-size .ensures .0) in
-    let short : length (c .before .before .before .before .part .result .now) ≤ 255 = omega (arith, ap length (c .before .before .before .before .part .ensures), partAt-length t ((l .p * c .before .before .before .before .before .before .before .before .before .before .full .result + c .before .before .before .before .before .before .before .last-slot .result .0) * c .before .before .before .before .before .before .before .before .before .before .before .entry-size .result) (a .l .key)) in
+    let key = c .before .before .before .before .part .ensures ∙ ap₂ (λ m n. partAt t (m * n) (a .l .«key_length»)) (ap₂ (λ f i. l .p * f + i) (c .before .before .before .before .before .before .before .before .before .before .full .ensures .0) (c .before .before .before .before .before .before .before .last-slot .ensures)) (c .before .before .before .before .before .before .before .before .before .before .before .entry-size .ensures .0) in
+    let short : length (c .before .before .before .before .part .result .now) ≤ 255 = omega (arith, ap length (c .before .before .before .before .part .ensures), partAt-length t ((l .p * c .before .before .before .before .before .before .before .before .before .before .full .result + c .before .before .before .before .before .before .before .last-slot .result .0) * c .before .before .before .before .before .before .before .before .before .before .before .entry-size .result) (a .l .«key_length»)) in
     let turn = part-laid (lastKeyIn t (a .l)) (l .p) _ (a .output .now) _ (a .l .pages * 4096) _ key (l .inv .2) (l .inv .3) in
     (omega arith, omega arith, turn .0, c .before .before .copy .ensures ∙ turn .1)
 

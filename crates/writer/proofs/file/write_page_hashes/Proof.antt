@@ -4,10 +4,10 @@ use Prim.Native.Nat.{_+_, _-_, _*_, _≤_}
 use native.Mathlib.Nat.{add-zero, zero-mul}
 use native.Mathlib.Omega.{arith}
 use lib.ListN.{length}
-use Rattle.field.specs.Part.{partsFrom, overlay}
-use Rattle.field.proofs.Laws.{overlay-none, overlay-length}
-use Rattle.index.specs.Layout.{pageHashAt}
-use Rattle.index.proofs.Laws.{bound}
+use Rattle.parts.specs.Part.{partsFrom, overlay}
+use Rattle.parts.proofs.Laws.{overlay-none, overlay-length}
+use Rattle.index_layout.specs.Layout.{pageHashAt}
+use Rattle.index_layout.proofs.Laws.{bound}
 use Rattle.writer.specs.Stored.{hashesOf}
 use Rattle.writer.proofs.Filled.{hashed, hash-laid}
 use borrow.Author.Needs.{needs}

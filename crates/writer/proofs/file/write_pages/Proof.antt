@@ -4,10 +4,10 @@ use Prim.Native.Nat.{_+_, _-_, _*_, _≤_}
 use native.Mathlib.Nat.{add-zero}
 use native.Mathlib.Omega.{arith}
 use lib.ListN.{length, replicate}
-use Rattle.field.specs.Part.{partAt, partsFrom, overlay}
-use Rattle.field.proofs.Laws.{overlay-none, overlay-length, partAt-length}
+use Rattle.parts.specs.Part.{partAt, partsFrom, overlay}
+use Rattle.parts.proofs.Laws.{overlay-none, overlay-length, partAt-length}
 use Rattle.writer.proofs.Filled.{page-laid}
-use Rattle.index.proofs.Laws.{bound, on-page-fits}
+use Rattle.index_layout.proofs.Laws.{bound, on-page-fits}
 use Rattle.writer.specs.File.{pageIn, pages}
 use borrow.Author.Needs.{needs}
 use Rattle.writer.proofs.file.write_pages.Statement.{statement}

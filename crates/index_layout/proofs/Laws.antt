@@ -1,0 +1,65 @@
+-- Laws of the layout.
+use mathlib.Core.Path.{_≡_}
+use mathlib.Core.List.{List}
+use Prim.Native.Nat.{ℕ, suc, _+_, _-_, _*_, _/_, _≤_, _<_}
+use native.Mathlib.Nat.{le-trans, mul-le-mul, mul-le-mul-left, mul-le-mul-right, div-mul-le-self, div-add-mod', le-div-iff-mul-le, min-le-left, add-mul, mul-one, one-mul, suc-mul}
+use native.Mathlib.Decide.{decLt}
+use native.Mathlib.Omega.{arith}
+use lib.ListN.{take}
+use Rattle.parts.specs.Part.{partAt}
+use Rattle.parts.proofs.Laws.{part-of-part}
+use Rattle.index_layout.specs.declared.Layout.{Layout}
+use Rattle.index_layout.specs.Layout.{entrySize, full, onPage, entryAt, keyAt}
+
+-- a product is at most that of the two bounds
+pub bound : (a b m n : ℕ) → a ≤ m → b ≤ n → a * b ≤ m * n
+bound a b m n h k = mul-le-mul h k
+
+-- how many entries of 4 to 514 bytes 4,096 bytes hold
+pub per-page : (d : ℕ) → 4 ≤ d → d ≤ 514 → (1 ≤ 4096 / d) × (4096 / d ≤ 1024)
+per-page d low high =
+    let positive : 0 < d = omega arith in
+    (le-div-iff-mul-le positive .1 (omega arith), omega (arith, div-mul-le-self 4096 d, mul-le-mul-left (4096 / d) low))
+
+-- n entries take at most n pages
+pub pages-most : (n e : ℕ) → 1 ≤ e → (n + e - 1) / e ≤ n
+pages-most n e h = go (decLt n ((n + e - 1) / e))
+  where
+    go : Dec (n < (n + e - 1) / e) → (n + e - 1) / e ≤ n
+    go (yes more) = absurd (omega (arith, div-add-mod' (n + e - 1) e, mul-le-mul-right e more, add-mul n 1 e, one-mul e, mul-le-mul-left n h, mul-one n))
+    go (no most) = omega arith
+
+-- bounds of a layout
+module _ (l : Layout) where
+  pub size-low : 4 ≤ entrySize l
+  unfolding entrySize
+  size-low = omega arith
+
+  pub full-fits : full l * entrySize l ≤ 4096
+  unfolding full
+  full-fits = div-mul-le-self 4096 (entrySize l)
+
+  pub on-page-full : (p : ℕ) → onPage l p ≤ full l
+  unfolding onPage
+  on-page-full p = min-le-left _ _
+
+  pub on-page-fits : (p : ℕ) → onPage l p * entrySize l ≤ 4096
+  on-page-fits p = le-trans (mul-le-mul-right (entrySize l) (on-page-full p)) full-fits
+
+  -- at most 1,024 entries on a page, since an entry has four bytes or more
+  pub full-most : full l ≤ 1024
+  full-most = omega (arith, full-fits, mul-le-mul-left (full l) size-low)
+
+  pub on-page-most : (p : ℕ) → onPage l p ≤ 1024
+  on-page-most p = le-trans (on-page-full p) full-most
+
+pub key-within : (l : Layout) → l .«key_length» ≤ entrySize l
+unfolding entrySize
+key-within l = omega arith
+
+-- the key of a slot, read from its page
+pub page-key : (s : List ℕ) (l : Layout) (p i : ℕ) → i < onPage l p → partAt (partAt s (p * 4096) 4096) (i * entrySize l) (l .«key_length») ≡ keyAt s l p i
+unfolding entryAt
+page-key s l p i h =
+    let most : suc i * entrySize l ≤ 4096 = le-trans (mul-le-mul-right (entrySize l) h) (on-page-fits l p) in
+    part-of-part s (p * 4096) 4096 (i * entrySize l) (l .«key_length») (omega (arith, most, suc-mul i (entrySize l), key-within l))

@@ -1,0 +1,79 @@
+-- Laws of the checks 1 to 5.
+use mathlib.Core.Path.{_≡_, sym, ap, ap₂, _∙_}
+use mathlib.Core.Bool.{Bool, not, cond}
+use mathlib.Core.List.{List, _++_}
+use Prim.Native.Nat.{ℕ, _+_, _-_, _^_, _≤_}
+use native.Mathlib.Omega.{arith}
+use lib.Dec.{ltb, lit≤}
+use lib.ListN.{length, take, drop, replicate}
+use Rattle.md5.specs.Message.{md5, digestOr0}
+use Rattle.parts.specs.Part.{partAt, sameBytes, overlay}
+use Rattle.parts.proofs.Laws.{partAt-inside, overlay-inside}
+use Rattle.refusal.specs.declared.Refusal.{Refusal}
+use Rattle.refusal.specs.Check.{Check, silent, refused, refusedIf, first}
+use Rattle.refusal.specs.Outcome.{answered, after}
+use Rattle.refusal.specs.Number.{entry-count}
+use Rattle.refusal.proofs.Laws.{silent-test, first-right, first-assoc, answered-after, refusal-after}
+use Rattle.index_layout.specs.declared.Layout.{Layout}
+use Rattle.index_open.specs.declared.Checked.{Checked}
+use Rattle.index_open.specs.declared.Checked.the-variants.{Passed, Refused}
+use Rattle.index_layout.specs.Layout.{pageSize, footerSize, versionAt, footerHashAt, mostEntries, entryCount, countCheck}
+use Rattle.index_open.specs.Open.{fieldsCheck, hashedFooter, footerHashCheck, footerCheck, layoutValues, outcome}
+use borrow.Author.Tests.{le-ltb, ltb-false}
+
+-- eight checks, each after those before it
+pub chain : (a b c d e f g h : Check) {v1 v2 v3 v4 v5 v6 v7 v8 : Check} → v1 ≡ first silent a → v2 ≡ first v1 b → v3 ≡ first v2 c → v4 ≡ first v3 d → v5 ≡ first v4 e
+    → v6 ≡ first v5 f → v7 ≡ first v6 g → v8 ≡ first v7 h → v8 ≡ first a (first b (first c (first d (first e (first f (first g h))))))
+unfolding first
+chain a b c d e f g h p1 p2 p3 p4 p5 p6 p7 p8 = rw (p8, p7, p6, p5, p4, p3, p2, p1) (simp first-assoc)
+
+-- a message within the limit is hashed, never refused
+pub first-eight-within : (m bytes : List ℕ) → length m ≤ 2 ^ 48 → bytes ≡ take 8 (digestOr0 m) → bytes ≡ take 8 (md5 m)
+first-eight-within m bytes h e = e ∙ ap (λ b. take 8 (cond b (replicate 16 0) (md5 m))) (le-ltb (2 ^ 48) (length m) h)
+
+pub first-eight-is : (m bytes : List ℕ) → length m ≤ pageSize → bytes ≡ take 8 (digestOr0 m) → bytes ≡ take 8 (md5 m)
+first-eight-is m bytes h = first-eight-within m bytes (omega arith)
+
+-- the 20 bytes that the footer hash is of
+pub hashed-is : (f p h : List ℕ) → length f ≡ footerSize → p ≡ partAt f versionAt (footerHashAt - versionAt) → h ≡ overlay (replicate 20 0) 0 p → h ≡ hashedFooter f
+hashed-is f p h size e o =
+    let inside : 8 + 12 ≤ length f = omega arith in
+    let long : length p ≡ 12 = ap length e ∙ partAt-inside f versionAt (footerHashAt - versionAt) inside in
+    let room : 0 + length p ≤ length (replicate {A = ℕ} 20 0) = rw long (lit≤ tt) in
+    let end : 0 + length p ≡ 12 = omega arith in
+    o ∙ overlay-inside (replicate 20 0) 0 p room ∙ ap₂ (λ a n. a ++ drop n (replicate 20 0)) e end
+
+-- a check layoutValues by its test
+pub hash-told : (a b c d : List ℕ) (r : Bool) (number place : ℕ) → r ≡ sameBytes a b → a ≡ c → b ≡ d
+    → refusedIf (not (sameBytes c d)) number place ≡ refusedIf (not r) number place
+hash-told a b c d r number place e p q = ap (λ t. refusedIf (not t) number place) (sym (e ∙ ap₂ sameBytes p q))
+
+-- what the checks of the footer say of the entry count
+pub count-within : (f : List ℕ) → footerCheck f ≡ silent → entryCount f ≤ mostEntries
+unfolding footerCheck
+count-within f e =
+    ltb-false mostEntries (entryCount f)
+    (silent-test (ltb mostEntries (entryCount f)) entry-count 0
+    (first-right (footerHashCheck f) (countCheck (entryCount f)) (first-right (fieldsCheck f) (first (footerHashCheck f) (countCheck (entryCount f))) e)))
+
+-- a layout is what is layoutValues of it
+pub values-one : (l m : Layout) → layoutValues l ≡ layoutValues m → l ≡ m
+unfolding layoutValues
+values-one l m e =
+    let v : l .version ≡ m .version = cc in
+    let o : l .«offset_width» ≡ m .«offset_width» = cc in
+    let k : l .«key_length» ≡ m .«key_length» = cc in
+    let n : l .entries ≡ m .entries = cc in
+    let p : l .pages ≡ m .pages = cc in
+    λ i. record { version = v i; «offset_width» = o i; «key_length» = k i; entries = n i; pages = p i }
+
+-- a passed index: the check was silent, and the layout is the footer's
+pub passed-index : (k : Check) (l m : Layout) (v : Checked) → outcome v ≡ after k (answered (layoutValues m)) → v ≡ Passed l → (k ≡ silent) × (l ≡ m)
+unfolding outcome
+passed-index k l m v e g =
+    let a : (k ≡ silent) × (layoutValues l ≡ layoutValues m) = answered-after k (layoutValues l) (layoutValues m) (sym (ap outcome g) ∙ e) in
+    (a .0, values-one l m (a .1))
+
+pub refused-index : (k : Check) (m : Layout) (v : Checked) {r : Refusal} → outcome v ≡ after k (answered (layoutValues m)) → v ≡ Refused r → k ≡ refused (r .number) (r .place)
+unfolding outcome
+refused-index k m v {r} e g = refusal-after k (r .number) (r .place) (layoutValues m) (sym (ap outcome g) ∙ e)

@@ -1,0 +1,153 @@
+-- What an index that passes 1 to 5 is known to be: its fields in range, its length right, its pages and their entries inside it.
+use mathlib.Core.Path.{_≡_, refl, sym, ap, ap₂, subst, _∙_}
+use mathlib.Core.Bool.{true, not, and-eq-true-iff}
+use mathlib.Core.List.{List}
+use Prim.Native.Nat.{ℕ, zero, suc, _+_, _-_, _*_, _≤_, _<_, min}
+use native.Mathlib.Nat.{zero-add, zero-mul, sub-zero, add-zero, suc-mul, mul-le-mul-left, mul-le-mul-right, div-add-mod', mod-lt, add-mul, one-mul}
+use native.Mathlib.Numerals.{add-one-le}
+use native.Mathlib.Omega.{arith}
+use lib.Dec.{ltb, leb}
+use Rattle.field.specs.Number.{within}
+use lib.ListN.{length, length-append}
+use borrow.Author.Tests.{ltb-false, leb-true, eqb-true, not-false}
+use Rattle.parts.specs.Part.{byteAt, partsFrom}
+use Rattle.parts.proofs.Laws.{partAt-inside}
+use Rattle.refusal.specs.Check.{silent, first}
+use Rattle.refusal.specs.Number.{index-short, footer-field, index-length}
+use Rattle.refusal.proofs.Laws.{silent-test, first-left, first-right}
+use Rattle.index_layout.specs.declared.Layout.{Layout}
+use Rattle.index_layout.specs.Layout.{pageSize, footerSize, hashLength, versionAt, reservedAt, pageKbAt, offsetWidthAt, sizeWidthAt, keyLengthAt, leastVersion, mostVersion, pageKb, leastOffsetWidth, mostOffsetWidth, sizeWidth, leastKeyLength, mostKeyLength, mostEntries, countCheck, footer, entryCount, keyLength, offsetWidth, entrySize, full, pagesFor, onPage, pageAt, indexLength, layoutFrom, layoutOf}
+use Rattle.index_open.specs.Open.{shortCheck, fieldCheck, fieldsCheck, footerHashCheck, footerCheck, lengthCheck, opening}
+use Rattle.index_layout.specs.Entries.{entriesOf, entriesBy, listOf}
+use Rattle.index_layout.proofs.Laws.{on-page-fits, per-page}
+use Rattle.index_open.proofs.Laws.{count-within}
+
+pub record Opened (s : List ℕ) : Type 0 where
+  pub whole : length s ≡ indexLength (layoutOf s)
+  pub offset-low : leastOffsetWidth ≤ offsetWidth (footer s)
+  pub offset-high : offsetWidth (footer s) ≤ mostOffsetWidth
+  pub key-low : leastKeyLength ≤ keyLength (footer s)
+  pub key-high : keyLength (footer s) ≤ mostKeyLength
+  pub count : entryCount (footer s) ≤ mostEntries
+  pub long : footerSize ≤ length s
+
+pub within-range : (x low high : ℕ) → within x low high ≡ true → (low ≤ x) × (x ≤ high)
+unfolding within
+within-range x low high e =
+    let both = and-eq-true-iff (leb low x) (leb x high) .0 e in
+    (leb-true low x (both .0), leb-true x high (both .1))
+
+pub field-range : (f : List ℕ) (at low high : ℕ) → fieldCheck f at low high ≡ silent → (low ≤ byteAt f at) × (byteAt f at ≤ high)
+unfolding fieldCheck
+field-range f at low high e =
+    within-range (byteAt f at) low high (not-false _ (silent-test (not (within (byteAt f at) low high)) footer-field 0 e))
+
+-- the offset width is the fifth field, the key length the seventh
+fields-range : (f : List ℕ) → fieldsCheck f ≡ silent
+    → ((leastOffsetWidth ≤ offsetWidth f) × (offsetWidth f ≤ mostOffsetWidth)) × ((leastKeyLength ≤ keyLength f) × (keyLength f ≤ mostKeyLength))
+unfolding fieldsCheck
+fields-range f e =
+    let a = first-right (fieldCheck f versionAt leastVersion mostVersion) _ e in
+    let b = first-right (fieldCheck f reservedAt 0 0) _ a in
+    let c = first-right (fieldCheck f (reservedAt + 1) 0 0) _ b in
+    let d = first-right (fieldCheck f pageKbAt pageKb pageKb) _ c in
+    let g = first-right (fieldCheck f offsetWidthAt leastOffsetWidth mostOffsetWidth) _ d in
+    let h = first-right (fieldCheck f sizeWidthAt sizeWidth sizeWidth) _ g in (
+      field-range f offsetWidthAt leastOffsetWidth mostOffsetWidth (first-left (fieldCheck f offsetWidthAt leastOffsetWidth mostOffsetWidth) _ d),
+      field-range f keyLengthAt leastKeyLength mostKeyLength (first-left (fieldCheck f keyLengthAt leastKeyLength mostKeyLength) _ h),
+    )
+
+pub opened : (s : List ℕ) → opening s ≡ silent → Opened s
+unfolding opening footerCheck
+opened s e =
+    let f : List ℕ = footer s in
+    let rest = first-right (shortCheck s) _ e in
+    let foot = first-left (first (fieldsCheck f) (first (footerHashCheck f) (countCheck (entryCount f)))) (lengthCheck s) rest in
+    let fields = fields-range f (first-left (fieldsCheck f) _ foot) in
+    record {
+      whole = eqb-true (length s) (indexLength (layoutOf s)) (not-false _ (silent-test _ index-length 0 (first-right (first (fieldsCheck f) (first (footerHashCheck f) (countCheck (entryCount f)))) (lengthCheck s) rest)));
+      offset-low = fields .0 .0;
+      offset-high = fields .0 .1;
+      key-low = fields .1 .0;
+      key-high = fields .1 .1;
+      count = count-within f foot;
+      long = ltb-false (length s) footerSize (silent-test (ltb (length s) footerSize) index-short 0 (first-left (shortCheck s) _ e));
+    }
+
+-- P pages of e entries hold n, and all but the last are needed
+pub pages-hold : (n e : ℕ) → 1 ≤ e → n ≤ pagesFor n e * e
+unfolding pagesFor
+pages-hold n e h = omega (arith, div-add-mod' (n + e - 1) e, mod-lt (n + e - 1) h)
+
+pub pages-tight : (n e p : ℕ) → 1 ≤ e → p < pagesFor n e → p * e < n
+unfolding pagesFor
+pages-tight n e p h k =
+    omega (arith, div-add-mod' (n + e - 1) e, mul-le-mul-right e (add-one-le k), add-mul p 1 e, one-mul e)
+
+-- a page's entries and those after it
+page-rest : (n e p : ℕ) → min e (n - p * e) + (n - suc p * e) ≡ n - p * e
+page-rest n e p = rw (suc-mul p e) (omega arith)
+
+module _ (s : List ℕ) (o : Opened s) where
+  pub size-range : (9 ≤ entrySize (layoutOf s)) × (entrySize (layoutOf s) ≤ 26)
+  unfolding entrySize layoutFrom
+  size-range = omega arith
+
+  pub full-positive : 1 ≤ full (layoutOf s)
+  unfolding full
+  full-positive = per-page (entrySize (layoutOf s)) (omega (arith, size-range .0)) (omega (arith, size-range .1)) .0
+
+  -- the pages are those that the entries take
+  pages-are : layoutOf s .pages ≡ pagesFor (layoutOf s .entries) (full (layoutOf s))
+  unfolding full entrySize layoutFrom
+  pages-are = refl
+
+  pub entries-held : layoutOf s .entries ≤ layoutOf s .pages * full (layoutOf s)
+  entries-held = subst (λ n. layoutOf s .entries ≤ n * full (layoutOf s)) (sym pages-are) (pages-hold (layoutOf s .entries) (full (layoutOf s)) full-positive)
+
+  -- every page has an entry
+  pub on-page-some : (p : ℕ) → p < layoutOf s .pages → 1 ≤ onPage (layoutOf s) p
+  unfolding onPage
+  on-page-some p h = omega (arith, full-positive, pages-tight (layoutOf s .entries) (full (layoutOf s)) p full-positive (rw pages-are at h))
+
+  -- every page but the last is full
+  pub on-page-full : (p : ℕ) → p + 1 < layoutOf s .pages → onPage (layoutOf s) p ≡ full (layoutOf s)
+  unfolding onPage
+  on-page-full p h =
+      omega (arith, pages-tight (layoutOf s .entries) (full (layoutOf s)) (p + 1) full-positive (rw pages-are at h), add-mul p 1 (full (layoutOf s)), one-mul (full (layoutOf s)))
+
+  pub pages-inside : pageAt (layoutOf s .pages) ≤ length s
+  unfolding indexLength
+  pages-inside =
+      let wide : pageSize ≤ pageSize + layoutOf s .«key_length» + hashLength = omega arith in
+      omega (arith, o .whole, mul-le-mul-left (layoutOf s .pages) wide)
+
+  pub page-inside : (p : ℕ) → p < layoutOf s .pages → pageAt p + pageSize ≤ length s
+  page-inside p h = omega (arith, pages-inside)
+
+  pub entries-length : (p : ℕ) → p < layoutOf s .pages → length (entriesOf s (layoutOf s) p) ≡ onPage (layoutOf s) p * entrySize (layoutOf s)
+  entries-length p h =
+      partAt-inside s (pageAt p) (onPage (layoutOf s) p * entrySize (layoutOf s)) (omega (arith, page-inside p h, on-page-fits (layoutOf s) p))
+
+  -- the list from page p on has the entries that are left
+  list-left : (p m : ℕ) → p + m ≡ layoutOf s .pages
+      → length (partsFrom (entriesOf s (layoutOf s)) p m) ≡ (layoutOf s .entries - p * full (layoutOf s)) * entrySize (layoutOf s)
+  unfolding partsFrom onPage
+  list-left p zero h =
+      let none : layoutOf s .entries - p * full (layoutOf s) ≡ 0 = rw (sym (add-zero p) ∙ h) (omega (arith, entries-held)) in
+      rw (none, zero-mul (entrySize (layoutOf s)))
+  list-left p (suc m) h =
+      let l : Layout = layoutOf s in
+      let inside : p < l .pages = omega arith in
+      let next : suc p + m ≡ l .pages = omega arith in
+      length-append (entriesOf s l p) (partsFrom (entriesOf s l) (suc p) m)
+      ∙ ap₂ (λ a b. a + b) (entries-length p inside) (list-left (suc p) m next)
+      ∙ sym (add-mul (onPage l p) (l .entries - suc p * full l) (entrySize l))
+      ∙ ap (λ n. n * entrySize l) (page-rest (l .entries) (full l) p)
+
+  pub list-length : length (listOf s) ≡ layoutOf s .entries * entrySize (layoutOf s)
+  unfolding entriesBy
+  list-length =
+      let l : Layout = layoutOf s in
+      let all : l .entries - 0 * full l ≡ l .entries = rw (zero-mul (full l)) (sub-zero (l .entries)) in
+      list-left 0 (l .pages) (zero-add (l .pages)) ∙ ap (λ n. n * entrySize l) all

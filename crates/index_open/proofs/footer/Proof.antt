@@ -1,0 +1,30 @@
+-- `index::footer`: the last 28 bytes.
+use mathlib.Core.Path.{ap, _∙_}
+use Prim.Native.Nat.{_-_}
+use native.Mathlib.Omega.{arith}
+use lib.ListN.{length, length-drop}
+use Rattle.parts.proofs.Laws.{part-to-end}
+use borrow.Author.Needs.{needs}
+use Rattle.index_open.proofs.footer.Statement.{statement}
+use Rattle.index_open.proofs.footer.Tie as tie
+
+sub-at : tie.Need-sub-at
+sub-at c = search needs
+
+sub-result : tie.Need-sub-result
+sub-result c = search needs
+
+part-result-start : tie.Need-part-result-start
+part-result-start c = search needs
+
+part-result-end : tie.Need-part-result-end
+part-result-end c = search needs
+
+returns : tie.Need-returns
+returns c =
+    let s = c .before .args .index .now in
+    let rest = part-to-end (length s - 28) s in
+    (rest, ap length rest ∙ length-drop (length s - 28) s ∙ omega arith)
+
+pub footer-spec : {M : Type 1} → statement M
+footer-spec = tie.close (tie.spec sub-at sub-result part-result-start part-result-end returns)

@@ -1,0 +1,67 @@
+-- The checks 1 to 5 of an index, each a refusal or nothing, in document 01's order.
+use mathlib.Core.Bool.{not}
+use mathlib.Core.List.{List, [], _∷_, _++_}
+use Prim.Native.Nat.{ℕ, _+_, _-_}
+use lib.Dec.{ltb, eqb}
+use lib.ListN.{length, take, replicate}
+use Rattle.parts.specs.Part.{byteAt, partAt, sameBytes}
+use Rattle.field.specs.Number.{within}
+use Rattle.md5.specs.Message.{md5}
+use Rattle.refusal.specs.Check.{Check, refusedIf, first}
+use Rattle.refusal.specs.Outcome.{Outcome, answered, refusal, after}
+use Rattle.refusal.specs.Number.{index-short, footer-field, footer-hash, index-length}
+use Rattle.index_layout.specs.declared.Layout.{Layout}
+use Rattle.index_layout.specs.Layout.{footerSize, versionAt, reservedAt, pageKbAt, offsetWidthAt, sizeWidthAt, keyLengthAt, hashLengthAt, footerHashAt, leastVersion, mostVersion, pageKb, leastOffsetWidth, mostOffsetWidth, sizeWidth, leastKeyLength, mostKeyLength, hashLength, countCheck, footer, entryCount, footerHash, indexLength, layoutOf}
+use Rattle.index_open.specs.declared.Checked.{Checked}
+use Rattle.index_open.specs.declared.Checked.the-variants.{Passed, Refused}
+
+-- 1: under 28 bytes.
+abbrev pub shortCheck : List ℕ → Check
+shortCheck s = refusedIf (ltb (length s) footerSize) index-short 0
+
+-- 2: the footer byte at an offset lies outside its list, from low to high.
+unfoldable pub fieldCheck : List ℕ → (at low high : ℕ) → Check
+fieldCheck f at low high = refusedIf (not (within (byteAt f at) low high)) footer-field 0
+
+-- Version, the two reserved bytes, page KB, offset width, size width, key length and hash length, in the footer's order.
+unfoldable pub fieldsCheck : List ℕ → Check
+fieldsCheck f =
+    first (fieldCheck f versionAt leastVersion mostVersion)
+    (first (fieldCheck f reservedAt 0 0)
+    (first (fieldCheck f (reservedAt + 1) 0 0)
+    (first (fieldCheck f pageKbAt pageKb pageKb)
+    (first (fieldCheck f offsetWidthAt leastOffsetWidth mostOffsetWidth)
+    (first (fieldCheck f sizeWidthAt sizeWidth sizeWidth)
+    (first (fieldCheck f keyLengthAt leastKeyLength mostKeyLength)
+    (fieldCheck f hashLengthAt hashLength hashLength)))))))
+
+-- 3: the hash of the 20 bytes from the version on, with the footer hash itself taken as zero.
+abbrev pub hashedFooter : List ℕ → List ℕ
+hashedFooter f = partAt f versionAt (footerHashAt - versionAt) ++ replicate hashLength 0
+
+unfoldable pub footerHashCheck : List ℕ → Check
+footerHashCheck f = refusedIf (not (sameBytes (take hashLength (md5 (hashedFooter f))) (footerHash f))) footer-hash 0
+
+-- 2 to 4.
+unfoldable pub footerCheck : List ℕ → Check
+footerCheck f = first (fieldsCheck f) (first (footerHashCheck f) (countCheck (entryCount f)))
+
+-- 5: file length wrong.
+abbrev pub lengthCheck : List ℕ → Check
+lengthCheck s = refusedIf (not (eqb (length s) (indexLength (layoutOf s)))) index-length 0
+
+-- 1 to 5.
+unfoldable pub opening : List ℕ → Check
+opening s = first (shortCheck s) (first (footerCheck (footer s)) (lengthCheck s))
+
+-- The values of a layout: version, W, K, n, P.
+unfoldable pub layoutValues : Layout → List ℕ
+layoutValues l = l .version ∷ l .«offset_width» ∷ l .«key_length» ∷ l .entries ∷ l .pages ∷ []
+
+unfoldable pub outcome : Checked → Outcome
+outcome (Passed l) = answered (layoutValues l)
+outcome (Refused r) = refusal (r .number) (r .place)
+
+-- What opening an index gives.
+abbrev pub openOutcome : List ℕ → Outcome
+openOutcome s = after (opening s) (answered (layoutValues (layoutOf s)))

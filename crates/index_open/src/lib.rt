@@ -1,0 +1,165 @@
+// Opening an archive index: refusals 1 to 5, and the layout that the footer tells.
+use field::little;
+use field::within;
+use index_layout::ENTRY_COUNT_AT;
+use index_layout::FOOTER_HASH_AT;
+use index_layout::FOOTER_SIZE;
+use index_layout::HASH_LENGTH;
+use index_layout::HASH_LENGTH_AT;
+use index_layout::KEY_LENGTH_AT;
+use index_layout::LEAST_KEY_LENGTH;
+use index_layout::LEAST_OFFSET_WIDTH;
+use index_layout::LEAST_VERSION;
+use index_layout::Layout;
+use index_layout::MOST_ENTRIES;
+use index_layout::MOST_KEY_LENGTH;
+use index_layout::MOST_OFFSET_WIDTH;
+use index_layout::MOST_VERSION;
+use index_layout::OFFSET_WIDTH_AT;
+use index_layout::PAGE_KB;
+use index_layout::PAGE_KB_AT;
+use index_layout::RESERVED_AT;
+use index_layout::SIZE_WIDTH;
+use index_layout::SIZE_WIDTH_AT;
+use index_layout::VERSION_AT;
+use parts::byte;
+use parts::copy;
+use parts::equal;
+use parts::part;
+use refusal::ENTRY_COUNT;
+use refusal::FOOTER_FIELD;
+use refusal::FOOTER_HASH;
+use refusal::INDEX_LENGTH;
+use refusal::INDEX_SHORT;
+use refusal::Refusal;
+use refusal::Verdict;
+use refusal::refuse;
+ghost use mathlib.Core.Path.{_≡_};
+ghost use mathlib.Core.Bool.{not};
+ghost use Prim.Native.Nat.{_<_, _≤_};
+ghost use lib.ListN.{length};
+ghost use Rattle.refusal.specs.Check.{checkOf, refusedIf, first};
+ghost use Rattle.refusal.specs.Number.{footer-hash};
+ghost use Rattle.index_layout.specs.Layout as layout;
+ghost use Rattle.index_open.specs.Open as spec;
+
+// What opening or checking an index answers.
+pub enum Checked {
+    Passed(Layout),
+    Refused(Refusal),
+}
+
+// The last 28 bytes.
+fn footer(index: &[u8]) -> &[u8]
+    requires { ⌜ layout.footerSize ≤ length (now index) ⌝ }
+    ensures { λ r. ⌜ now r ≡ layout.footer (now (index .entry)) ⌝ }
+    ensures { λ r. ⌜ length (now r) ≡ layout.footerSize ⌝ }
+{
+    let at = index.len() - FOOTER_SIZE;
+    &index[at..]
+}
+
+// What was judged before, then the footer byte at an offset, which lies from low to high.
+fn check_field(before: Verdict, footer: &[u8], at: usize, low: u8, high: u8) -> Verdict
+    ensures { λ r. ⌜ checkOf r ≡ first (checkOf before) (spec.fieldCheck (now (footer .entry)) at low high) ⌝ }
+{
+    if let Verdict::Refused(_) = before {
+        return before;
+    }
+    if !within(byte(footer, at) as u32, low as u32, high as u32) {
+        return refuse(FOOTER_FIELD, 0);
+    }
+    Verdict::Passed
+}
+
+// Each field against its list, in the footer's order: version, reserved, page KB, offset width, size width, key length and
+// hash length.
+fn check_fields(footer: &[u8]) -> Verdict
+    ensures { λ r. ⌜ checkOf r ≡ spec.fieldsCheck (now (footer .entry)) ⌝ }
+{
+    let v = Verdict::Passed;
+    let v = check_field(v, footer, VERSION_AT, LEAST_VERSION, MOST_VERSION);
+    let v = check_field(v, footer, RESERVED_AT, 0, 0);
+    let v = check_field(v, footer, RESERVED_AT + 1, 0, 0);
+    let v = check_field(v, footer, PAGE_KB_AT, PAGE_KB, PAGE_KB);
+    let v = check_field(
+        v,
+        footer,
+        OFFSET_WIDTH_AT,
+        LEAST_OFFSET_WIDTH,
+        MOST_OFFSET_WIDTH,
+    );
+    let v = check_field(v, footer, SIZE_WIDTH_AT, SIZE_WIDTH, SIZE_WIDTH);
+    let v = check_field(v, footer, KEY_LENGTH_AT, LEAST_KEY_LENGTH, MOST_KEY_LENGTH);
+    check_field(v, footer, HASH_LENGTH_AT, HASH_LENGTH, HASH_LENGTH)
+}
+
+// The first eight bytes of the hash of a footer, with the stored hash taken as zero, against the stored ones.
+fn footer_hash_right(footer: &[u8]) -> bool
+    requires { ⌜ length (now footer) ≡ layout.footerSize ⌝ }
+    ensures { λ r. ⌜ spec.footerHashCheck (now (footer .entry)) ≡ refusedIf (not r) footer-hash 0 ⌝ }
+{
+    let mut hashed = [0u8; 20];
+    copy(
+        part(footer, VERSION_AT, FOOTER_HASH_AT - VERSION_AT),
+        &mut hashed,
+        0,
+    );
+    let hash = md5::first_eight(&hashed);
+    let bytes = hash.bytes;
+    equal(&bytes, part(footer, FOOTER_HASH_AT, HASH_LENGTH as usize))
+}
+
+// The layout that a footer tells, where its entries are not too many.
+fn read_layout(footer: &[u8]) -> Layout
+    requires { ⌜ layout.entryCount (now footer) ≤ layout.mostEntries ⌝ }
+    ensures { λ r. ⌜ r ≡ layout.layoutFrom (now (footer .entry)) ⌝ }
+{
+    let version = byte(footer, VERSION_AT);
+    let offset_width = byte(footer, OFFSET_WIDTH_AT);
+    let key_length = byte(footer, KEY_LENGTH_AT);
+    let entries = little(footer, ENTRY_COUNT_AT, 4) as u32;
+    Layout::new(version, offset_width, key_length, entries)
+}
+
+// Refusals 2 to 4.
+fn check_footer(footer: &[u8]) -> Verdict
+    requires { ⌜ length (now footer) ≡ layout.footerSize ⌝ }
+    ensures { λ r. ⌜ checkOf r ≡ spec.footerCheck (now (footer .entry)) ⌝ }
+{
+    let fields = check_fields(footer);
+    if let Verdict::Refused(_) = fields {
+        return fields;
+    }
+    if !footer_hash_right(footer) {
+        return refuse(FOOTER_HASH, 0);
+    }
+    if MOST_ENTRIES < little(footer, ENTRY_COUNT_AT, 4) {
+        return refuse(ENTRY_COUNT, 0);
+    }
+    Verdict::Passed
+}
+
+// Refusals 1 to 5, and what the footer says.
+pub fn open(index: &[u8]) -> Checked
+    ensures { λ r. ⌜ spec.outcome r ≡ spec.openOutcome (now (index .entry)) ⌝ }
+{
+    if index.len() < FOOTER_SIZE {
+        return Checked::Refused(Refusal {
+            number: INDEX_SHORT,
+            place: 0,
+        });
+    }
+    let footer = footer(index);
+    if let Verdict::Refused(r) = check_footer(footer) {
+        return Checked::Refused(r);
+    }
+    let layout = read_layout(footer);
+    if index.len() != layout.length() {
+        return Checked::Refused(Refusal {
+            number: INDEX_LENGTH,
+            place: 0,
+        });
+    }
+    Checked::Passed(layout)
+}

@@ -1,0 +1,52 @@
+-- Key text: 11, 60, 61, and the K bytes.
+use mathlib.Core.Bool.{Bool, not, _&&_, cond}
+use mathlib.Core.List.{List, [], _∷_}
+use Prim.Native.Nat.{ℕ, _+_, _-_, _*_}
+use lib.Dec.{ltb, leb, eqb}
+use lib.ListN.{length, replicate}
+use Rattle.parts.specs.Part.{byteAt}
+use Rattle.refusal.specs.Check.{Check, refusedIf, first, firstFrom}
+use Rattle.refusal.specs.Number.{settings, key-text-length, hex-digit}
+use Rattle.refusal.specs.Output.{filled}
+
+-- The value of a hex digit, 0 to 9, a to f or A to F; 16 for any other character.
+unfoldable pub digitOf : ℕ → ℕ
+digitOf c =
+    cond (leb 48 c && leb c 57) (c - 48)
+    (cond (leb 97 c && leb c 102) (c - 97 + 10)
+    (cond (leb 65 c && leb c 70) (c - 65 + 10)
+    16))
+
+-- Whether a character is a hex digit.
+abbrev pub isDigit : ℕ → Bool
+isDigit c = ltb (digitOf c) 16
+
+-- 11: K is not 1 to 16.
+abbrev pub keyLengthCheck : ℕ → Check
+keyLengthCheck k = refusedIf (not (leb 1 k && leb k 16)) settings 0
+
+-- 60: not 2K characters.
+abbrev pub textLengthCheck : List ℕ → ℕ → Check
+textLengthCheck text k = refusedIf (not (eqb (length text) (2 * k))) key-text-length 0
+
+-- 61: the character at an offset is not a hex digit.
+unfoldable pub digitCheck : List ℕ → ℕ → Check
+digitCheck text at = refusedIf (not (isDigit (byteAt text at))) hex-digit at
+
+-- 61 at the first character that is none.
+unfoldable pub digitsCheck : List ℕ → Check
+digitsCheck text = firstFrom (digitCheck text) 0 (length text)
+
+-- 11, 60, 61.
+unfoldable pub textCheck : List ℕ → ℕ → Check
+textCheck text k = first (keyLengthCheck k) (first (textLengthCheck text k) (digitsCheck text))
+
+-- The bytes that a text tells: two digits each, the higher first. A single digit left over tells none.
+unfoldable pub textBytes : List ℕ → List ℕ
+textBytes [] = []
+textBytes (x ∷ []) = []
+textBytes (x ∷ y ∷ text) = (digitOf x * 16 + digitOf y) ∷ textBytes text
+
+-- The sixteen bytes that carry a key by value: the key's, and zeros past them; zeros beside a refusal.
+unfoldable pub carried : List ℕ → ℕ → List ℕ
+carried text k = filled (textCheck text k) (textBytes text) (replicate 16 0)

@@ -1,0 +1,81 @@
+-- `field::copy` meets its contract: after each turn `to` has so many bytes of `from` pasted in, and an overlay pastes what has room.
+use mathlib.Core.Path.{_≡_, refl, sym}
+use Prim.Native.Nat.{_-_, _≤_, min}
+use native.Mathlib.Numerals.{add-one}
+use native.Mathlib.Omega.{arith}
+use borrow.Author.Needs.{needs}
+use lib.ListN.{length, length-set}
+use lib.Seq.{paste, paste-zero, paste-suc}
+use Rattle.parts.proofs.Laws.{overlay-paste}
+use Rattle.parts.proofs.copy.Statement.{statement}
+use Rattle.parts.proofs.copy.Tie as tie
+
+abbrev Inv-loop : tie.InvT-loop
+Inv-loop from to₀ at count done₀ to done = (done ≤ count) × (to ≡ paste to₀ at from done) × (length to ≡ length to₀)
+
+abbrev μ-loop : tie.MeasureT-loop
+μ-loop from to₀ at count done₀ to done = count - done
+
+rest-requires : tie.Need-rest-requires Inv-loop μ-loop
+rest-requires c κs = search needs
+
+least-requires : tie.Need-least-requires Inv-loop μ-loop
+least-requires c κs = search needs
+
+loop-holds : tie.Need-loop-holds Inv-loop μ-loop
+loop-holds c =
+    let a = c .before .before .before .before .args in
+    (search needs, paste-zero (a .to .now) (a .at) (a .from .now), refl)
+
+shared-slice-read-to : tie.Need-shared-slice-read-to Inv-loop μ-loop
+shared-slice-read-to c = search needs
+
+add-to : tie.Need-add-to Inv-loop μ-loop
+add-to c = search needs
+
+slice-write-to : tie.Need-slice-write-to Inv-loop μ-loop
+slice-write-to c = search needs
+
+add-done : tie.Need-add-done Inv-loop μ-loop
+add-done c = search needs
+
+loop-less : tie.Need-loop-less Inv-loop μ-loop
+loop-less c = search needs
+
+loop-again : tie.Need-loop-again Inv-loop μ-loop
+loop-again c =
+    let a = c .before .before .before .before .before .before .before .args in
+    let l = c .before .before .loop in (
+      search needs,
+      rw (l .inv .1, add-one)
+          (paste-suc (a .to .now) (a .at) (a .from .now) (l .done) 0 (search needs) (search needs)),
+      simp length-set (l .inv .2),
+    )
+
+same-length : tie.Need-same-length Inv-loop μ-loop
+same-length c = search needs
+
+returns : tie.Need-returns Inv-loop μ-loop
+returns c =
+    let a = c .before .before .before .before .before .before .args in
+    let l = c .before .loop in
+    let all : l .done ≡ min (length (a .from .now)) (length (a .to .now) - a .at) = omega arith in
+    rw (l .inv .1, all) (sym (overlay-paste (a .to .now) (a .at) (a .from .now)))
+
+pub copy-spec : {M : Type 1} → statement M
+copy-spec =
+    tie.close
+    (tie.spec
+    Inv-loop
+    μ-loop
+    rest-requires
+    least-requires
+    loop-holds
+    shared-slice-read-to
+    add-to
+    slice-write-to
+    add-done
+    loop-less
+    loop-again
+    same-length
+    returns)
