@@ -1,5 +1,5 @@
 -- The lengths of the parts of a written file, and where each part stands in it.
-use mathlib.Core.Path.{_≡_, refl, sym, ap, ap₂, _∙_}
+use mathlib.Core.Path.{_≡_, sym, ap, ap₂, _∙_}
 use mathlib.Core.List.{List, _++_, append-assoc}
 use Prim.Native.Nat.{ℕ, _+_, _-_, _*_, _≤_, _<_}
 use native.Mathlib.Nat.{zero-add, add-zero, add-mul, mul-add, mul-le-mul-right, one-mul}
@@ -9,20 +9,17 @@ use lib.Seq.{take-at}
 use Rattle.parts.specs.Part.{partAt, overlay}
 use Rattle.parts.proofs.Laws.{partAt-inside, overlay-after, overlay-inside}
 use Rattle.parts.proofs.Parts.{part-after, parts-same, parts-length, parts-part}
-use Rattle.md5.specs.Message.{md5, digestOf, littleBytes}
+use Rattle.md5.specs.Message.{md5}
 use Rattle.refusal.specs.Check.{silent}
 use Rattle.refusal.specs.Output.{filled}
 use Rattle.index_layout.specs.declared.Layout.{Layout}
-use Rattle.index_layout.specs.Layout.{pageSize, footerSize, hashLength, entrySize, full, onPage, entryNumber, pageAt, lastKeyAt, pageHashAt, indexLength, pageOf}
+use Rattle.index_layout.specs.Layout.{pageSize, hashLength, entrySize, full, onPage, entryNumber, pageAt, lastKeyAt, pageHashAt, indexLength, pageOf}
 use Rattle.index_layout.proofs.Laws.{per-page, size-low, key-within, on-page-fits}
 use Rattle.index_open.proofs.Opened.{pages-tight}
-use Rattle.index_file.specs.File.{listAt, entriesIn, pageIn, lastKeyIn, pageHashIn, pages, lastKeys, pageHashes, hashesOf, footerAt, contentsOf, footerWith, fields, fileOf}
+use Rattle.index_file.specs.File.{listAt, entriesIn, pageIn, lastKeyIn, pageHashIn, pages, lastKeys, pageHashes, hashesOf, fileOf}
 use Rattle.index_file.specs.Held.{Held}
-use Rattle.index_file.proofs.Laws.{keys-begin, hashes-begin, footer-begins, index-ends, contents-size, first-eight-length}
-
-pub footer-length : (l : Layout) (contents : List ℕ) → length (footerWith l contents) ≡ footerSize
-unfolding footerWith fields md5 digestOf littleBytes
-footer-length l contents = refl
+use Rattle.index_footer.specs.Footer.{footerAt, contentsOf, footerWith}
+use Rattle.index_footer.proofs.Laws.{keys-begin, hashes-begin, footer-begins, index-ends, contents-size, first-eight-length, footer-length}
 
 module _ (list : List ℕ) (l : Layout) (h : Held list l) where
   pub full-positive : 1 ≤ full l

@@ -1,11 +1,12 @@
 -- The bytes of an index that is written from a list of entries: document 01, "Archive index".
-use mathlib.Core.List.{List, _∷_, _++_}
+use mathlib.Core.List.{List, _++_}
 use Prim.Native.Nat.{ℕ, _-_, _*_}
 use lib.ListN.{take, replicate}
 use Rattle.parts.specs.Part.{partAt, partsFrom}
-use Rattle.md5.specs.Message.{md5, littleBytes}
+use Rattle.md5.specs.Message.{md5}
 use Rattle.index_layout.specs.declared.Layout.{Layout}
-use Rattle.index_layout.specs.Layout.{pageSize, pageKb, sizeWidth, hashLength, entrySize, onPage, entryNumber, lastKeyAt, pageHashAt, pageOf}
+use Rattle.index_layout.specs.Layout.{pageSize, hashLength, entrySize, onPage, entryNumber, pageOf}
+use Rattle.index_footer.specs.Footer.{footerWith}
 
 -- Where slot i of page p stands in the list, which has nothing between its entries.
 abbrev pub listAt : Layout → ℕ → ℕ → ℕ
@@ -40,24 +41,6 @@ pageHashes list l = partsFrom (pageHashIn list l) 0 (l .pages)
 -- The hashes of the pages that bytes begin with.
 unfoldable pub hashesOf : List ℕ → Layout → List ℕ
 hashesOf s l = partsFrom (λ p. take hashLength (md5 (pageOf s p))) 0 (l .pages)
-
--- The footer begins after the last page hash.
-abbrev pub footerAt : Layout → ℕ
-footerAt l = pageHashAt l (l .pages)
-
--- What the contents hash is of: the last keys and the page hashes, which stand between the pages and the footer.
-abbrev pub contentsOf : List ℕ → Layout → List ℕ
-contentsOf s l = partAt s (lastKeyAt l 0) (footerAt l - lastKeyAt l 0)
-
--- The footer's fields: version, reserved, page KB, offset width, size width, key length, hash length, and the entry count,
--- lowest byte first.
-unfoldable pub fields : Layout → List ℕ
-fields l =
-    l .version ∷ 0 ∷ 0 ∷ pageKb ∷ l .«offset_width» ∷ sizeWidth ∷ l .«key_length» ∷ hashLength ∷ littleBytes 4 (l .entries)
-
--- The footer: the contents hash, the fields, and the footer hash, which is of the fields with the hash itself taken as zero.
-unfoldable pub footerWith : Layout → List ℕ → List ℕ
-footerWith l contents = take hashLength (md5 contents) ++ fields l ++ take hashLength (md5 (fields l ++ replicate hashLength 0))
 
 -- The whole file.
 unfoldable pub fileOf : List ℕ → Layout → List ℕ

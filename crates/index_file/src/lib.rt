@@ -1,21 +1,15 @@
-// The bytes of an archive index, part by part. Each function answers for any list, layout and output: what has no room is
-// left out.
+// The parts of an archive index before its footer: pages, last keys and page hashes. Each function answers for any list,
+// layout and output: what has no room is left out.
 use index::page_hashes;
-use index_layout::FOOTER_HASH_AT;
 use index_layout::HASH_LENGTH;
 use index_layout::Layout;
-use index_layout::PAGE_KB;
 use index_layout::PAGE_SIZE;
 use index_layout::Page;
-use index_layout::SIZE_WIDTH;
 use index_layout::Slot;
-use index_layout::VERSION_AT;
 use parts::copy;
 use parts::part;
 ghost use mathlib.Core.Path.{_≡_};
-ghost use mathlib.Core.List.{_++_};
 ghost use Prim.Native.Nat.{_*_, _≤_};
-ghost use lib.ListN.{replicate};
 ghost use Rattle.parts.specs.Part.{overlay};
 ghost use Rattle.index_layout.specs.Layout as layout;
 ghost use Rattle.index_file.specs.File as spec;
@@ -93,60 +87,4 @@ pub fn write_page_hashes(l: Layout, output: &mut [u8])
         to += 2 * size;
         p += 2;
     }
-}
-
-// The footer's fields, and zeros in place of the footer hash.
-fn unhashed_fields(l: Layout) -> [u8; 20]
-    ensures { λ r. ⌜ r ≡ spec.fields l ++ replicate layout.hashLength 0 ⌝ }
-{
-    let version = l.version;
-    let offset = l.offset_width;
-    let key = l.key_length;
-    let n = l.entries;
-    let a = (n % 256) as u8;
-    let b = (n / 256 % 256) as u8;
-    let c = (n / 256 / 256 % 256) as u8;
-    let d = (n / 256 / 256 / 256 % 256) as u8;
-    [
-        version,
-        0,
-        0,
-        PAGE_KB,
-        offset,
-        SIZE_WIDTH,
-        key,
-        HASH_LENGTH,
-        a,
-        b,
-        c,
-        d,
-        0,
-        0,
-        0,
-        0,
-        0,
-        0,
-        0,
-        0,
-    ]
-}
-
-// The footer, after the last keys and the page hashes that stand in the output.
-pub fn write_footer(l: Layout, output: &mut [u8])
-    ensures { λ _. ⌜ now (output .exit) ≡ overlay (now (output .entry)) (spec.footerAt l) (spec.footerWith l (spec.contentsOf (now (output .entry)) l)) ⌝ }
-{
-    let from = l.last_key_at(Page(0));
-    let at = l.page_hash_at(Page(l.pages));
-    let contents = md5::first_eight(part(output, from, at - from));
-    let contents_hash = contents.bytes;
-    let fields = unhashed_fields(l);
-    let footer = md5::first_eight(&fields);
-    let footer_hash = footer.bytes;
-    copy(&contents_hash, output, at);
-    copy(
-        part(&fields, 0, FOOTER_HASH_AT - VERSION_AT),
-        output,
-        at + VERSION_AT,
-    );
-    copy(&footer_hash, output, at + FOOTER_HASH_AT);
 }

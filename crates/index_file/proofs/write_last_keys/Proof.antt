@@ -9,7 +9,7 @@ use Rattle.parts.proofs.Laws.{overlay-none, overlay-length, partAt-length}
 use Rattle.parts.proofs.Parts.{part-laid}
 use Rattle.index_layout.specs.Layout.{pageAt, lastKeyAt}
 use Rattle.index_file.specs.File.{listAt, lastKeyIn, lastKeys}
-use Rattle.index_file.proofs.Laws.{keys-begin}
+use Rattle.index_footer.proofs.Laws.{keys-begin}
 use borrow.Author.Needs.{needs}
 use Rattle.index_file.proofs.write_last_keys.Statement.{statement}
 use Rattle.index_file.proofs.write_last_keys.Tie as tie

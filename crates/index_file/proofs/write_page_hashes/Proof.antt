@@ -8,7 +8,8 @@ use Rattle.parts.proofs.Laws.{overlay-none, overlay-length}
 use Rattle.index_layout.specs.Layout.{hashLength, pageAt}
 use Rattle.index_layout.proofs.Laws.{bound}
 use Rattle.index_file.specs.File.{hashesOf}
-use Rattle.index_file.proofs.Laws.{hashes-begin, hashed, hash-laid}
+use Rattle.index_footer.proofs.Laws.{hashes-begin}
+use Rattle.index_file.proofs.Laws.{hashed, hash-laid}
 use borrow.Author.Needs.{needs}
 use Rattle.index_file.proofs.write_page_hashes.Statement.{statement}
 use Rattle.index_file.proofs.write_page_hashes.Tie as tie

@@ -1,10 +1,10 @@
--- `index_file::unhashed_fields`: twelve bytes, and eight zeros.
+-- `index_footer::unhashed_fields`: twelve bytes, and eight zeros.
 use mathlib.Core.Path.{refl}
 use Rattle.md5.specs.Message.{littleBytes}
-use Rattle.index_file.specs.File.{fields}
+use Rattle.index_footer.specs.Footer.{fields}
 use borrow.Author.Needs.{needs}
-use Rattle.index_file.proofs.unhashed_fields.Statement.{statement}
-use Rattle.index_file.proofs.unhashed_fields.Tie as tie
+use Rattle.index_footer.proofs.unhashed_fields.Statement.{statement}
+use Rattle.index_footer.proofs.unhashed_fields.Tie as tie
 
 cast-a : tie.Need-cast-a
 cast-a c = search needs
