@@ -1,9 +1,9 @@
--- `writer::file::write_file`: the parts one after the other are the file.
+-- `writer::write_file`: the parts one after the other are the file.
 use mathlib.Core.Path.{_∙_}
-use Rattle.writer.proofs.Parts.{file-laid}
+use Rattle.index_file.proofs.Parts.{file-laid}
 use borrow.Author.Needs.{needs}
-use Rattle.writer.proofs.file.write_file.Statement.{statement}
-use Rattle.writer.proofs.file.write_file.Tie as tie
+use Rattle.writer.proofs.write_file.Statement.{statement}
+use Rattle.writer.proofs.write_file.Tie as tie
 
 write-pages-requires : tie.Need-write-pages-requires
 write-pages-requires c κs = search needs
