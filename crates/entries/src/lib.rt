@@ -1,6 +1,7 @@
 // The list of an index: its entries' bytes, in order, with nothing between.
 use index_layout::Layout;
 use index_layout::Page;
+use index_layout::page_at;
 use index_open::Checked;
 use parts::copy;
 use parts::part;
@@ -31,7 +32,7 @@ fn fill(index: &[u8], l: Layout, output: &mut [u8])
     let mut p = 0;
     while p < pages {
         let bytes = l.on_page(Page(p)) * size;
-        let page = part(index, p as usize * 4096, bytes);
+        let page = part(index, page_at(Page(p)), bytes);
         copy(page, output, to);
         to += page.len();
         p += 1;

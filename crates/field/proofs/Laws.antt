@@ -1,15 +1,18 @@
--- Laws of the numbers at an offset, over all widths.
+-- Laws of the numbers at an offset, over all widths, and of numbers between two bounds.
 use mathlib.Core.Path.{_≡_, refl, sym, ap₂, _∙_}
 use mathlib.Core.List.{List}
-use Prim.Native.Nat.{ℕ, zero, suc, _+_, _-_, _*_, _^_, _<_}
+use mathlib.Core.Bool.{true, false, and-false, and-eq-true-iff}
+use mathlib.Core.Logic.{_⊎_, inl, inr}
+use borrow.Author.Tests.{le-leb, lt-leb, leb-true}
+use Prim.Native.Nat.{_≤_, ℕ, zero, suc, _+_, _-_, _*_, _^_, _<_}
 use native.Mathlib.Nat.{add-zero, mul-assoc, pow-suc, pow-succ', pow-le-pow-right, lt-of-lt-of-le, zero-lt-suc}
 use native.Mathlib.Omega.{arith}
 use lib.Arith.{digits-lt}
-use lib.Dec.{lit<}
+use lib.Dec.{leb, lit<}
 use mir.Syntax.{w64}
 use mir.Val.{Fits}
 use Rattle.parts.specs.Part.{byteAt}
-use Rattle.field.specs.Number.{bigAt, littleAt}
+use Rattle.field.specs.Number.{bigAt, littleAt, within}
 
 -- ---- numbers
 
@@ -68,3 +71,21 @@ pub one-more-fits : {number byte w : ℕ} → w < 8 → number < 256 ^ w → byt
 one-more-fits {w = w} short below b = record {
   fits = lt-of-lt-of-le (digits-lt below b) (rw (← pow-suc 256 w) (pow-le-pow-right (lit< tt) short));
 }
+
+-- ---- numbers between two bounds
+
+module _ (low high x : ℕ) where
+  pub within-inside : low ≤ x → x ≤ high → within x low high ≡ true
+  unfolding within
+  within-inside l m = rw (le-leb low x l, le-leb x high m)
+
+  pub within-outside : (x < low) ⊎ (high < x) → within x low high ≡ false
+  unfolding within
+  within-outside (inl l) = rw (lt-leb low x l)
+  within-outside (inr l) = rw (lt-leb x high l) (and-false (leb low x))
+
+  pub within-range : within x low high ≡ true → (low ≤ x) × (x ≤ high)
+  unfolding within
+  within-range e =
+      let both = and-eq-true-iff (leb low x) (leb x high) .0 e in
+      (leb-true low x (both .0), leb-true x high (both .1))

@@ -12,7 +12,7 @@ use mir.Syntax.{w64}
 use mir.Val.{Fits}
 use borrow.Author.Tests.{ne-eqb, ltb-true, ltb-false}
 use Rattle.halving.specs.declared.Halved.{Halved}
-use Rattle.halving.specs.Halving.{halvedOnce, halving, halve, leastOr, digitsFrom, digits}
+use Rattle.halving.specs.Halving.{halvedOnce, halving, halvedFrom, halve, leastOr, digitsFrom, binaryDigits}
 
 by-test : {P : Type 0} (b : Bool) → (b ≡ true → P) → (b ≡ false → P) → P
 by-test true t f = t refl
@@ -51,21 +51,21 @@ module _ (n : ℕ) where
       (from-least turns (d + 1) (rw shift at h)
       (λ e m. by-order d e (λ k. omega arith) (λ k. absurd (omega (arith, pow-mono k, ltb-false n (2 ^ d) t))))))
 
-  pub digits-least : Least n (digits n)
-  unfolding digits
+  pub digits-least : Least n (binaryDigits n)
+  unfolding binaryDigits
   digits-least = from-least n 0 (rw zero-add (below-power n)) (λ e m. omega arith)
 
-pub digits-none : digits 0 ≡ 0
-unfolding digits digitsFrom
+pub digits-none : binaryDigits 0 ≡ 0
+unfolding binaryDigits digitsFrom
 digits-none = refl
 
 -- at the most entries that an index has
-pub digits-limit : digits 8388608 ≡ 24
-unfolding digits digitsFrom leastOr
+pub digits-limit : binaryDigits 8388608 ≡ 24
+unfolding binaryDigits digitsFrom leastOr
 digits-limit = refl
 
-pub digits-mono : {m n : ℕ} → m ≤ n → digits m ≤ digits n
-digits-mono {m} {n} h = digits-least m .least (digits n) (omega (arith, digits-least n .below))
+pub digits-mono : {m n : ℕ} → m ≤ n → binaryDigits m ≤ binaryDigits n
+digits-mono {m} {n} h = digits-least m .least (binaryDigits n) (omega (arith, digits-least n .below))
 
 -- No fewer digits hold n.
 digits-short : (n d : ℕ) → Least n d → 2 ^ d ≤ 2 * n + 1
@@ -74,11 +74,11 @@ digits-short n (suc d) l =
     by-order n (2 ^ d) (λ h. absurd (omega (arith, l .least d h))) (λ h. omega (arith, pow-suc 2 d))
 
 -- The width less the leading zeros.
-pub digits-width : (w n : ℕ) → n < 2 ^ w → w - leadingZeros w n ≡ digits n
+pub digits-width : (w n : ℕ) → n < 2 ^ w → w - leadingZeros w n ≡ binaryDigits n
 digits-width w n h =
     let l = digits-least n in
-    let d : digits n ≤ w = l .least w h in
-    omega (arith, leading-unique w n (w - digits n) (digits n) (omega arith) (l .below) (digits-short n (digits n) l))
+    let d : binaryDigits n ≤ w = l .least w h in
+    omega (arith, leading-unique w n (w - binaryDigits n) (binaryDigits n) (omega arith) (l .below) (digits-short n (binaryDigits n) l))
 
 -- What holds at every number of digits that holds the half of v, with one more, holds at every number that holds v.
 one-digit-less : (v half count c : ℕ) → 0 < v → half ≤ v / 2 → ((d : ℕ) → half < 2 ^ d → c ≤ count + 1 + d) → (d : ℕ) → v < 2 ^ d → c ≤ count + d
@@ -88,17 +88,17 @@ one-digit-less v half count c some small p (suc d) h = omega (arith, p d (omega 
 -- ---- the halving rule
 
 module _ (below : ℕ → Bool) where
-  stop-at-none : (turns start count : ℕ) → halving turns below start 0 count ≡ record { place = start; count = count }
+  pub stop-at-none : (turns start count : ℕ) → halving turns below start 0 count ≡ record { place = start; count = count }
   unfolding halving halvedOnce
   stop-at-none zero start count = refl
   stop-at-none (suc turns) start count = refl
 
   module _ (turns start w count : ℕ) (some : 0 < w) where
-    go-after : below (start + w / 2) ≡ true → halving (suc turns) below start w count ≡ halving turns below (start + w / 2 + 1) (w - w / 2 - 1) (count + 1)
+    pub go-after : below (start + w / 2) ≡ true → halving (suc turns) below start w count ≡ halving turns below (start + w / 2 + 1) (w - w / 2 - 1) (count + 1)
     unfolding halving halvedOnce
     go-after h = rw (ne-eqb w 0 (omega arith), h)
 
-    go-before : below (start + w / 2) ≡ false → halving (suc turns) below start w count ≡ halving turns below start (w / 2) (count + 1)
+    pub go-before : below (start + w / 2) ≡ false → halving (suc turns) below start w count ≡ halving turns below start (w / 2) (count + 1)
     unfolding halving halvedOnce
     go-before h = rw (ne-eqb w 0 (omega arith), h)
 
@@ -121,6 +121,21 @@ module _ (below : ℕ → Bool) where
       (λ l. let e : w ≡ 0 = omega arith in
       rw (e, stop-at-none) (none start count))
 
+  -- As many turns as the range has keys are enough.
+  pub any-turns : (turns start w count : ℕ) → w ≤ turns → halving turns below start w count ≡ halvedFrom below start w count
+  any-turns turns start w count h =
+      by-halving (λ start v count r. (turns : ℕ) → v ≤ turns → r ≡ halving turns below start v count)
+      (λ start count turns l. sym (stop-at-none turns start count))
+      (λ start v count r some t ih. elim [
+        | zero ↦ λ l. absurd (omega arith)
+        | suc turns ↦ λ l. ih turns (omega arith) ∙ sym (go-after turns start v count some t)
+      ])
+      (λ start v count r some t ih. elim [
+        | zero ↦ λ l. absurd (omega arith)
+        | suc turns ↦ λ l. ih turns (omega arith) ∙ sym (go-before turns start v count some t)
+      ])
+      turns start w count h w (omega arith)
+
   -- The place lies in the range, or just after it.
   pub halve-place : (w : ℕ) → halve below w .place ≤ w
   unfolding halve
@@ -132,14 +147,14 @@ module _ (below : ℕ → Bool) where
       w 0 w 0 (omega arith) (omega arith)
 
   -- At most as many keys are compared as the range has binary digits.
-  pub halve-count : (w : ℕ) → halve below w .count ≤ digits w
+  pub halve-count : (w : ℕ) → halve below w .count ≤ binaryDigits w
   unfolding halve
   halve-count w =
       let counted = by-halving (λ start v count r. (d : ℕ) → v < 2 ^ d → r .count ≤ count + d)
       (λ start count d h. omega arith)
       (λ start v count r some t p. one-digit-less v _ _ _ some (omega arith) p)
       (λ start v count r some t p. one-digit-less v _ _ _ some (omega arith) p)
-      w 0 w 0 (omega arith) (digits w) (digits-least w .below) in
+      w 0 w 0 (omega arith) (binaryDigits w) (digits-least w .below) in
       omega arith
 
   pub halve-most : (w : ℕ) → w < 2 ^ 32 → halve below w .count ≤ 32

@@ -1,7 +1,8 @@
 -- The halving rule and the binary digits of a number: document 01, "Archive index".
+use mathlib.Core.Path.{_≡_}
 use mathlib.Core.Bool.{Bool, true, false}
 use mathlib.Core.List.{List}
-use Prim.Native.Nat.{ℕ, zero, suc, _+_, _-_, _*_, _/_, _^_}
+use Prim.Native.Nat.{ℕ, zero, suc, _+_, _-_, _*_, _/_, _^_, _<_}
 use lib.Dec.{ltb, eqb}
 use lib.ListN.{length}
 use Rattle.parts.specs.Part.{partAt}
@@ -22,9 +23,23 @@ halving zero below start w count = record { place = start; count = count }
 halving (suc turns) below start w count =
     halvedOnce (eqb w 0) (below (start + w / 2)) (halving turns below) start w count
 
+-- The halving rule over the w keys from start on, after count comparisons.
+abbrev pub halvedFrom : (ℕ → Bool) → (start w count : ℕ) → Halved
+halvedFrom below start w count = halving w below start w count
+
 -- The halving rule over w keys: where it ends, and how many keys it compared.
 unfoldable pub halve : (ℕ → Bool) → ℕ → Halved
-halve below w = halving w below 0 w 0
+halve below w = halvedFrom below 0 w 0
+
+-- The halving rule in document 01's words, without the turns: `go` follows it over every range. `halvedFrom` does
+-- (proofs/Rule.antt).
+pub record HalvingRule (below : ℕ → Bool) (go : (start w count : ℕ) → Halved) : Type 0 where
+  -- none left, stop;
+  pub none-left : (start count : ℕ) → go start 0 count ≡ record { place = start; count = count }
+  -- else compare the key at start + floor(w / 2): if it is below the sought key, go on after it,
+  pub below-sought : (start w count : ℕ) → 0 < w → below (start + w / 2) ≡ true → go start w count ≡ go (start + w / 2 + 1) (w - w / 2 - 1) (count + 1)
+  -- else before it. Each comparison of a stored key counts one.
+  pub not-below : (start w count : ℕ) → 0 < w → below (start + w / 2) ≡ false → go start w count ≡ go start (w / 2) (count + 1)
 
 -- Whether the key with a number is below the sought one, of keys as long as that one that stand `stride` bytes apart.
 unfoldable pub keyBelow : List ℕ → ℕ → List ℕ → ℕ → Bool
@@ -39,5 +54,5 @@ unfoldable pub digitsFrom : (turns : ℕ) → ℕ → ℕ → ℕ
 digitsFrom zero n d = d
 digitsFrom (suc turns) n d = leastOr (ltb n (2 ^ d)) (digitsFrom turns n) d
 
-unfoldable pub digits : ℕ → ℕ
-digits n = digitsFrom n n 0
+unfoldable pub binaryDigits : ℕ → ℕ
+binaryDigits n = digitsFrom n n 0

@@ -1,4 +1,6 @@
 // The halving rule over keys that lie in lent bytes, and the binary digits of a number.
+use key::rises;
+use parts::part;
 ghost use mathlib.Core.Path.{_≡_};
 ghost use Prim.Native.Nat.{_≤_};
 ghost use lib.ListN.{length};
@@ -10,17 +12,6 @@ ghost use Rattle.halving.specs.Halving as spec;
 pub struct Halved {
     pub place: u32,
     pub count: u32,
-}
-
-// Whether the key at an offset is below another.
-fn is_below(keys: &[u8], at: usize, key: &[u8]) -> bool
-    ensures { λ r. ⌜ r ≡ isBelow (compared (partAt (now (keys .entry)) at (length (now (key .entry)))) (now (key .entry))) ⌝ }
-{
-    match key::compare(parts::part(keys, at, key.len()), key) {
-        key::Order::Below => true,
-        key::Order::Equal => false,
-        key::Order::Above => false,
-    }
 }
 
 // Halves over `count` keys, as long as the sought one, that stand `stride` bytes apart. At most 32 are compared, as a `u32`
@@ -37,7 +28,7 @@ pub fn halve(keys: &[u8], stride: u16, count: u32, key: &[u8]) -> Halved
         let half = left / 2;
         let middle = start + half;
         compared += 1;
-        if is_below(keys, middle as usize * step, key) {
+        if rises(part(keys, middle as usize * step, key.len()), key) {
             start = middle + 1;
             left = left - half - 1;
         } else {
@@ -51,8 +42,8 @@ pub fn halve(keys: &[u8], stride: u16, count: u32, key: &[u8]) -> Halved
 }
 
 // The binary digits of a number: the width less the leading zeros.
-pub fn digits(n: u32) -> u32
-    ensures { λ r. ⌜ r ≡ spec.digits n ⌝ }
+pub fn binary_digits(n: u32) -> u32
+    ensures { λ r. ⌜ r ≡ spec.binaryDigits n ⌝ }
     ensures { λ r. ⌜ r ≤ 32 ⌝ }
 {
     32 - u32::leading_zeros(n)

@@ -6,9 +6,12 @@ use native.Mathlib.Nat.{le-trans, mul-le-mul, mul-le-mul-left, mul-le-mul-right,
 use native.Mathlib.Decide.{decLt}
 use native.Mathlib.Omega.{arith}
 use lib.ListN.{take}
-use Rattle.parts.specs.Part.{partAt}
+use Rattle.parts.specs.Part.{partAt, byteAt}
 use Rattle.parts.proofs.Laws.{part-of-part}
 use Rattle.index_layout.specs.declared.Layout.{Layout}
+use Rattle.field.specs.Number.{bigAt}
+use Rattle.field.proofs.Laws.{bigAt-below}
+use Rattle.index_layout.specs.Entries.{archiveOf, offsetOf}
 use Rattle.index_layout.specs.Layout.{entrySize, full, onPage, entryAt, keyAt}
 
 -- a product is at most that of the two bounds
@@ -63,3 +66,17 @@ unfolding entryAt
 page-key s l p i h =
     let most : suc i * entrySize l ≤ 4096 = le-trans (mul-le-mul-right (entrySize l) h) (on-page-fits l p) in
     part-of-part s (p * 4096) 4096 (i * entrySize l) (l .«key_length») (omega (arith, most, suc-mul i (entrySize l), key-within l))
+
+-- A location of six bytes is the archive number in the first two, then the offset in four.
+module _ (s : List ℕ) (at : ℕ) (bytes : (i : ℕ) → byteAt s i < 256) where
+  two-and-four : bigAt s at 6 ≡ bigAt s at 2 * 4294967296 + bigAt s (at + 1 + 1) 4
+  unfolding bigAt
+  two-and-four = omega arith
+
+  pub archive-is : archiveOf (bigAt s at 6) ≡ bigAt s at 2
+  archive-is = rw two-and-four (omega (arith, bigAt-below s bytes (at + 1 + 1) 4))
+
+  pub offset-is : offsetOf (bigAt s at 6) ≡ bigAt s (at + 2) 4
+  offset-is =
+      let two : at + 2 ≡ at + 1 + 1 = omega arith in
+      rw (two, two-and-four) (omega (arith, bigAt-below s bytes (at + 1 + 1) 4))

@@ -1,13 +1,29 @@
--- The list of an index: its entries' bytes, in order, with nothing between.
+-- The entries of an index: document 01, "Archive index".
 use mathlib.Core.List.{List}
-use Prim.Native.Nat.{ℕ, _*_}
+use Prim.Native.Nat.{ℕ, _+_, _*_, _/_, _%_, _^_}
 use Rattle.parts.specs.Part.{partAt, partsFrom}
 use Rattle.index_layout.specs.declared.Layout.{Layout}
-use Rattle.index_layout.specs.Layout.{entrySize, onPage, layoutOf}
+use Rattle.field.specs.Number.{bigAt}
+use Rattle.index_layout.specs.Layout.{sizeWidth, entrySize, onPage, pageAt, entryAt, layoutOf}
 
--- The entries of page p, which stand one after the other from its start on.
+-- The size and the location of an entry, which follow its key.
+unfoldable pub sizeAt : List ℕ → Layout → ℕ → ℕ → ℕ
+sizeAt s l p i = bigAt s (entryAt l p i + l .«key_length») sizeWidth
+
+unfoldable pub locationAt : List ℕ → Layout → ℕ → ℕ → ℕ
+locationAt s l p i = bigAt s (entryAt l p i + l .«key_length» + sizeWidth) (l .«offset_width»)
+
+-- With W = 6 the location is archive number (2 bytes), then offset (4).
+abbrev pub archiveOf : ℕ → ℕ
+archiveOf location = location / 2 ^ 32
+
+abbrev pub offsetOf : ℕ → ℕ
+offsetOf location = location % 2 ^ 32
+
+-- The list of an index is its entries' bytes, in order, with nothing between. The entries of page p stand one after the other
+-- from its start on.
 abbrev pub entriesOf : List ℕ → Layout → ℕ → List ℕ
-entriesOf s l p = partAt s (p * 4096) (onPage l p * entrySize l)
+entriesOf s l p = partAt s (pageAt p) (onPage l p * entrySize l)
 
 -- The entries of all pages.
 unfoldable pub entriesBy : List ℕ → Layout → List ℕ

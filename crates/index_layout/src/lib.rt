@@ -3,6 +3,7 @@
 ghost use mathlib.Core.Path.{_≡_};
 ghost use Prim.Native.Nat.{_-_, _≤_};
 ghost use Rattle.index_layout.specs.Layout as spec;
+ghost use Rattle.index_layout.specs.Entries as entries;
 
 // The bytes of a page and of the footer.
 pub const PAGE_SIZE: usize = 4096;
@@ -63,6 +64,20 @@ pub struct Page(pub u32);
 
 // The number of an entry within its page, from 0.
 pub struct Slot(pub u32);
+
+// The archive number in a location of six bytes.
+pub fn archive(location: u64) -> u32
+    ensures { λ r. ⌜ r ≡ entries.archiveOf location ⌝ }
+{
+    (location / 4_294_967_296) as u32
+}
+
+// The offset in a location of six bytes.
+pub fn offset(location: u64) -> u32
+    ensures { λ r. ⌜ r ≡ entries.offsetOf location ⌝ }
+{
+    (location % 4_294_967_296) as u32
+}
 
 // Where a page stands.
 pub fn page_at(page: Page) -> usize

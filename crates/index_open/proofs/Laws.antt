@@ -43,7 +43,7 @@ hashed-is f p h size e o =
     let end : 0 + length p ≡ 12 = omega arith in
     o ∙ overlay-inside (replicate 20 0) 0 p room ∙ ap₂ (λ a n. a ++ drop n (replicate 20 0)) e end
 
--- a check layoutValues by its test
+-- a check told by its test
 pub hash-told : (a b c d : List ℕ) (r : Bool) (number place : ℕ) → r ≡ sameBytes a b → a ≡ c → b ≡ d
     → refusedIf (not (sameBytes c d)) number place ≡ refusedIf (not r) number place
 hash-told a b c d r number place e p q = ap (λ t. refusedIf (not t) number place) (sym (e ∙ ap₂ sameBytes p q))
@@ -56,7 +56,7 @@ count-within f e =
     (silent-test (ltb mostEntries (entryCount f)) entry-count 0
     (first-right (footerHashCheck f) (countCheck (entryCount f)) (first-right (fieldsCheck f) (first (footerHashCheck f) (countCheck (entryCount f))) e)))
 
--- a layout is what is layoutValues of it
+-- a layout is its values
 pub values-one : (l m : Layout) → layoutValues l ≡ layoutValues m → l ≡ m
 unfolding layoutValues
 values-one l m e =

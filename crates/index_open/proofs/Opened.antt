@@ -1,15 +1,16 @@
 -- What an index that passes 1 to 5 is known to be: its fields in range, its length right, its pages and their entries inside it.
 use mathlib.Core.Path.{_≡_, refl, sym, ap, ap₂, subst, _∙_}
-use mathlib.Core.Bool.{true, not, and-eq-true-iff}
+use mathlib.Core.Bool.{not}
 use mathlib.Core.List.{List}
 use Prim.Native.Nat.{ℕ, zero, suc, _+_, _-_, _*_, _≤_, _<_, min}
 use native.Mathlib.Nat.{zero-add, zero-mul, sub-zero, add-zero, suc-mul, mul-le-mul-left, mul-le-mul-right, div-add-mod', mod-lt, add-mul, one-mul}
 use native.Mathlib.Numerals.{add-one-le}
 use native.Mathlib.Omega.{arith}
-use lib.Dec.{ltb, leb}
+use lib.Dec.{ltb}
 use Rattle.field.specs.Number.{within}
+use Rattle.field.proofs.Laws.{within-range}
 use lib.ListN.{length, length-append}
-use borrow.Author.Tests.{ltb-false, leb-true, eqb-true, not-false}
+use borrow.Author.Tests.{ltb-false, eqb-true, not-false}
 use Rattle.parts.specs.Part.{byteAt, partsFrom}
 use Rattle.parts.proofs.Laws.{partAt-inside}
 use Rattle.refusal.specs.Check.{silent, first}
@@ -31,16 +32,10 @@ pub record Opened (s : List ℕ) : Type 0 where
   pub count : entryCount (footer s) ≤ mostEntries
   pub long : footerSize ≤ length s
 
-pub within-range : (x low high : ℕ) → within x low high ≡ true → (low ≤ x) × (x ≤ high)
-unfolding within
-within-range x low high e =
-    let both = and-eq-true-iff (leb low x) (leb x high) .0 e in
-    (leb-true low x (both .0), leb-true x high (both .1))
-
 pub field-range : (f : List ℕ) (at low high : ℕ) → fieldCheck f at low high ≡ silent → (low ≤ byteAt f at) × (byteAt f at ≤ high)
 unfolding fieldCheck
 field-range f at low high e =
-    within-range (byteAt f at) low high (not-false _ (silent-test (not (within (byteAt f at) low high)) footer-field 0 e))
+    within-range low high (byteAt f at) (not-false _ (silent-test (not (within (byteAt f at) low high)) footer-field 0 e))
 
 -- the offset width is the fifth field, the key length the seventh
 fields-range : (f : List ℕ) → fieldsCheck f ≡ silent

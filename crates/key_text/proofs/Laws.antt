@@ -1,16 +1,18 @@
 -- Laws of key text.
 use mathlib.Core.Path.{_≡_, refl, sym, ap, _∙_}
-use mathlib.Core.Bool.{Bool, true, false, _&&_, and-false, false≢true}
+use mathlib.Core.Bool.{true, false, not}
 use mathlib.Core.List.{List, [], _∷_}
 use mathlib.Core.Logic.{_⊎_, inl, inr}
 use Prim.Native.Nat.{ℕ, zero, suc, _+_, _-_, _*_, _/_, _≤_, _<_}
 use native.Mathlib.Nat.{sub-zero, zero-add, not-suc-le-zero}
 use native.Mathlib.Numerals.{add-one}
 use native.Mathlib.Omega.{arith}
-use lib.Dec.{leb}
 use lib.ListN.{length, drop, set, replicate}
 use lib.Seq.{paste, paste-suc, take-length, take-append-seam}
-use borrow.Author.Tests.{ltb-true, leb-true, eqb-true, not-false, lt-ltb, le-ltb, le-leb, lt-leb, eq-eqb, ne-eqb}
+use borrow.Author.Tests.{ltb-true, eqb-true, not-false, lt-ltb, le-ltb, eq-eqb, ne-eqb}
+use Rattle.field.specs.Number.{within}
+use Rattle.field.proofs.Laws.{within-inside, within-outside, within-range}
+use Rattle.index_layout.specs.Layout.{leastKeyLength, mostKeyLength}
 use Rattle.parts.specs.Part.{byteAt, partAt, overlay}
 use Rattle.parts.proofs.Laws.{overlay-inside}
 use Rattle.refusal.specs.Check.{silent, refused, firstFrom}
@@ -21,30 +23,22 @@ use Rattle.key_text.specs.Text.{digitOf, isDigit, keyLengthCheck, digitC
 
 -- ---- one digit
 
-module _ (low high c : ℕ) where
-  inside : low ≤ c → c ≤ high → (leb low c && leb c high) ≡ true
-  inside l m = rw (le-leb low c l, le-leb c high m)
-
-  outside : (c < low) ⊎ (high < c) → (leb low c && leb c high) ≡ false
-  outside (inl l) = rw (lt-leb low c l)
-  outside (inr l) = rw (lt-leb c high l) (and-false (leb low c))
-
 module _ (c : ℕ) where
   pub decimal : 48 ≤ c → c < 58 → c - 48 ≡ digitOf c
   unfolding digitOf
-  decimal l m = rw (inside 48 57 c l (omega arith))
+  decimal l m = rw (within-inside 48 57 c l (omega arith))
 
   pub lower : 97 ≤ c → c < 103 → c - 97 + 10 ≡ digitOf c
   unfolding digitOf
-  lower l m = rw (outside 48 57 c (inr (omega arith)), inside 97 102 c l (omega arith))
+  lower l m = rw (within-outside 48 57 c (inr (omega arith)), within-inside 97 102 c l (omega arith))
 
   pub upper : 65 ≤ c → c < 71 → c - 65 + 10 ≡ digitOf c
   unfolding digitOf
-  upper l m = rw (outside 48 57 c (inr (omega arith)), outside 97 102 c (inl (omega arith)), inside 65 70 c l (omega arith))
+  upper l m = rw (within-outside 48 57 c (inr (omega arith)), within-outside 97 102 c (inl (omega arith)), within-inside 65 70 c l (omega arith))
 
   pub no-digit : (c < 48) ⊎ (57 < c) → (c < 97) ⊎ (102 < c) → (c < 65) ⊎ (70 < c) → 16 ≡ digitOf c
   unfolding digitOf
-  no-digit d l u = rw (outside 48 57 c d, outside 97 102 c l, outside 65 70 c u)
+  no-digit d l u = rw (within-outside 48 57 c d, within-outside 97 102 c l, within-outside 65 70 c u)
 
 -- ---- the digits, one after the other
 
@@ -85,18 +79,14 @@ digit-below text at e l =
 
 -- ---- 11, 60, 61
 
-second : (a b : Bool) → (a && b) ≡ true → b ≡ true
-second true b e = e
-second false b e = absurd (false≢true e)
-
 module _ (text : List ℕ) (k : ℕ) where
-  pub key-length-wrong : (k < 1) ⊎ (16 < k) → textCheck text k ≡ refused settings 0
+  pub key-length-wrong : not (within k leastKeyLength mostKeyLength) ≡ true → textCheck text k ≡ refused settings 0
   unfolding textCheck
-  key-length-wrong h = first-said _ (said refl (rw (outside 1 16 k h)))
+  key-length-wrong h = first-said _ (said refl h)
 
-  module _ (least : 1 ≤ k) (most : k ≤ 16) where
+  module _ (range : not (within k leastKeyLength mostKeyLength) ≡ false) where
     key-length-right : keyLengthCheck k ≡ silent
-    key-length-right = quiet settings 0 refl (rw (inside 1 16 k least most))
+    key-length-right = quiet settings 0 refl range
 
     pub text-length-wrong : (length text ≡ 2 * k → ⊥) → textCheck text k ≡ refused key-text-length 0
     unfolding textCheck
@@ -109,10 +99,9 @@ module _ (text : List ℕ) (k : ℕ) where
 
   -- What holds of a text that is not refused.
   module _ (e : textCheck text k ≡ silent) where
-    pub right-key-length : k ≤ 16
+    pub right-key-length : k ≤ mostKeyLength
     unfolding textCheck
-    right-key-length =
-        leb-true k 16 (second (leb 1 k) (leb k 16) (not-false _ (silent-test _ settings 0 (first-left _ _ e))))
+    right-key-length = within-range leastKeyLength mostKeyLength k (not-false _ (silent-test _ settings 0 (first-left _ _ e))) .1
 
     pub right-text-length : length text ≡ 2 * k
     unfolding textCheck

@@ -1,10 +1,12 @@
 -- Key text: 11, 60, 61, and the K bytes.
-use mathlib.Core.Bool.{Bool, not, _&&_, cond}
+use mathlib.Core.Bool.{Bool, not, cond}
 use mathlib.Core.List.{List, [], _∷_}
 use Prim.Native.Nat.{ℕ, _+_, _-_, _*_}
-use lib.Dec.{ltb, leb, eqb}
+use lib.Dec.{ltb, eqb}
 use lib.ListN.{length, replicate}
 use Rattle.parts.specs.Part.{byteAt}
+use Rattle.field.specs.Number.{within}
+use Rattle.index_layout.specs.Layout.{leastKeyLength, mostKeyLength}
 use Rattle.refusal.specs.Check.{Check, refusedIf, first, firstFrom}
 use Rattle.refusal.specs.Number.{settings, key-text-length, hex-digit}
 use Rattle.refusal.specs.Output.{filled}
@@ -12,9 +14,9 @@ use Rattle.refusal.specs.Output.{filled}
 -- The value of a hex digit, 0 to 9, a to f or A to F; 16 for any other character.
 unfoldable pub digitOf : ℕ → ℕ
 digitOf c =
-    cond (leb 48 c && leb c 57) (c - 48)
-    (cond (leb 97 c && leb c 102) (c - 97 + 10)
-    (cond (leb 65 c && leb c 70) (c - 65 + 10)
+    cond (within c 48 57) (c - 48)
+    (cond (within c 97 102) (c - 97 + 10)
+    (cond (within c 65 70) (c - 65 + 10)
     16))
 
 -- Whether a character is a hex digit.
@@ -23,7 +25,7 @@ isDigit c = ltb (digitOf c) 16
 
 -- 11: K is not 1 to 16.
 abbrev pub keyLengthCheck : ℕ → Check
-keyLengthCheck k = refusedIf (not (leb 1 k && leb k 16)) settings 0
+keyLengthCheck k = refusedIf (not (within k leastKeyLength mostKeyLength)) settings 0
 
 -- 60: not 2K characters.
 abbrev pub textLengthCheck : List ℕ → ℕ → Check

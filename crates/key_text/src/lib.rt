@@ -1,4 +1,7 @@
 // Key text: two hex digits for each byte of a key, the higher first.
+use field::within;
+use index_layout::LEAST_KEY_LENGTH;
+use index_layout::MOST_KEY_LENGTH;
 use refusal::HEX_DIGIT;
 use refusal::KEY_TEXT_LENGTH;
 use refusal::SETTINGS;
@@ -47,7 +50,11 @@ fn check_digits(text: &[u8]) -> Verdict
 fn check(text: &[u8], length: u8) -> Verdict
     ensures { λ r. ⌜ checkOf r ≡ spec.textCheck (now (text .entry)) length ⌝ }
 {
-    if length < 1 || 16 < length {
+    if !within(
+        length as u32,
+        LEAST_KEY_LENGTH as u32,
+        MOST_KEY_LENGTH as u32,
+    ) {
         return refuse(SETTINGS, 0);
     }
     if text.len() != 2 * length as usize {

@@ -26,7 +26,7 @@ overlay-none [] at = refl
 overlay-none (x ∷ out) (suc at) = ap (λ (r : List ℕ). x ∷ r) (overlay-none out at)
 overlay-none (x ∷ out) zero = refl
 
--- the same text, layoutValues otherwise
+-- the same text, told otherwise
 pub put-same : {out after : List ℕ} {at to : ℕ} {a b : List ℕ} → Put out at a after to → a ≡ b → Put out at b after to
 put-same {out} {after} {at} {to} p e = subst (λ (t : List ℕ). Put out at t after to) e p
 

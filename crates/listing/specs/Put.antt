@@ -12,7 +12,7 @@ unfoldable pub fitted : List ℕ → List ℕ → List ℕ
 fitted text output = cond (leb (length text) (length output)) (text ++ drop (length text) output) output
 
 -- What the private functions ensure; no rule of its own: the text stands in the output from a place on, as far as there is
--- room, and its end is layoutValues.
+-- room, and its end is told.
 pub record Put (output : List ℕ) (at : ℕ) (text after : List ℕ) (to : ℕ) : Type 0 where
   pub end : to ≡ at + length text
   pub bytes : after ≡ overlay output at text

@@ -20,15 +20,16 @@ use Rattle.refusal.specs.Number.{index-key-length}
 use Rattle.refusal.proofs.Laws.{first-said, said, quiet, skip, after-said, after-quiet}
 use Rattle.refusal.specs.Outcome.{answered, refusal}
 use Rattle.halving.specs.declared.Halved.{Halved}
-use Rattle.halving.specs.Halving.{halve, keyBelow, digits}
+use Rattle.halving.specs.Halving.{halve, keyBelow, binaryDigits}
 use Rattle.halving.proofs.Laws.{halve-agree}
 use Rattle.index_layout.specs.declared.Layout.{Layout}
 use Rattle.index_layout.specs.Layout.{entrySize, full, onPage, entryAt, lastKeyAt, layoutFrom, layoutOf, keyAt}
+use Rattle.index_layout.specs.Entries.{sizeAt, locationAt}
 use Rattle.index_open.specs.Open.{opening}
 use Rattle.index_open.proofs.Opened.{opened}
 use Rattle.lookup.specs.declared.Answer.{Answer}
 use Rattle.lookup.specs.declared.Answer.the-variants.{Absent}
-use Rattle.lookup.specs.Lookup.{storedIn, slotHalved, endedAt, endedOn, pageHalved, endedFrom, ended, sizeAt, locationAt, archiveOf, offsetOf, toldOf, keyCheck, lookupOf, mostOf, boundOf, outcome}
+use Rattle.lookup.specs.Lookup.{storedIn, slotHalved, endedAt, endedOn, pageHalved, endedFrom, ended, endOutcome, keyCheck, lookupOf, mostOf, boundOf, outcome}
 
 -- ---- the keys that are halved over
 
@@ -77,8 +78,8 @@ module _ (s sought : List ℕ) (l : Layout) where
   -- on a page, after some comparisons
   module _ (p count : ℕ) (h : Halved) (n : ℕ) (e : h ≡ slotHalved (storedIn s l sought) p) (g : n ≡ onPage l p) where
     pub no-slot : n ≤ h .place
-        → outcome (Absent (count + h .count)) ≡ toldOf s l (endedOn (storedIn s l sought) p count)
-    unfolding outcome toldOf endedOn endedAt storedIn
+        → outcome (Absent (count + h .count)) ≡ endOutcome s l (endedOn (storedIn s l sought) p count)
+    unfolding outcome endOutcome endedOn endedAt storedIn
     no-slot none = rw (← e, le-ltb (h .place) (onPage l p) (rw g at none))
 
     module _ (a : List ℕ) (at : ℕ) (t : Bool) (some : h .place < n) (f : at ≡ entryAt l p (h .place)) (k : a ≡ partAt s at (l .«key_length»)) (z : t ≡ sameBytes a sought) where
@@ -86,27 +87,27 @@ module _ (s sought : List ℕ) (l : Layout) where
       same-there = equal-is-same _ sought ∙ sym (rw (k, f) at z)
 
       pub other-key : not t ≡ true
-          → outcome (Absent (count + h .count + 1)) ≡ toldOf s l (endedOn (storedIn s l sought) p count)
-      unfolding outcome toldOf endedOn endedAt storedIn
+          → outcome (Absent (count + h .count + 1)) ≡ endOutcome s l (endedOn (storedIn s l sought) p count)
+      unfolding outcome endOutcome endedOn endedAt storedIn
       other-key x = rw (← e, lt-ltb (h .place) (onPage l p) (rw g at some), same-there, not-true t x)
 
       pub same-key : (r : Answer) → not t ≡ false
           → outcome r ≡ answered (p ∷ h .place ∷ sizeAt s l p (h .place) ∷ locationAt s l p (h .place) ∷ (count + h .count + 1) ∷ [])
-          → outcome r ≡ toldOf s l (endedOn (storedIn s l sought) p count)
-      unfolding toldOf endedOn endedAt storedIn
-      same-key r x layoutValues = layoutValues ∙ rw (← e, lt-ltb (h .place) (onPage l p) (rw g at some), same-there, not-false t x)
+          → outcome r ≡ endOutcome s l (endedOn (storedIn s l sought) p count)
+      unfolding endOutcome endedOn endedAt storedIn
+      same-key r x same = same ∙ rw (← e, lt-ltb (h .place) (onPage l p) (rw g at some), same-there, not-false t x)
 
   -- on the last keys
   module _ (h : Halved) (e : h ≡ pageHalved (storedIn s l sought)) where
-    pub no-page : l .pages ≤ h .place → outcome (Absent (h .count)) ≡ toldOf s l (ended (storedIn s l sought))
-    unfolding outcome toldOf ended endedFrom storedIn
+    pub no-page : l .pages ≤ h .place → outcome (Absent (h .count)) ≡ endOutcome s l (ended (storedIn s l sought))
+    unfolding outcome endOutcome ended endedFrom storedIn
     no-page none = rw (← e, le-ltb (h .place) (l .pages) none)
 
     pub on-page : (r : Answer) → h .place < l .pages
-        → outcome r ≡ toldOf s l (endedOn (storedIn s l sought) (h .place) (h .count))
-        → outcome r ≡ toldOf s l (ended (storedIn s l sought))
+        → outcome r ≡ endOutcome s l (endedOn (storedIn s l sought) (h .place) (h .count))
+        → outcome r ≡ endOutcome s l (ended (storedIn s l sought))
     unfolding ended endedFrom storedIn
-    on-page r some layoutValues = layoutValues ∙ rw (← e, lt-ltb (h .place) (l .pages) some)
+    on-page r some same = same ∙ rw (← e, lt-ltb (h .place) (l .pages) some)
 
 -- ---- an entry's size and location
 pub entry-fits : (l : Layout) (p i at : ℕ) → at ≡ entryAt l p i → p < 2 ^ 32 → i < 2 ^ 32 → l .«key_length» < 256 → l .«offset_width» < 256 → at + l .«key_length» + 4 < 2 ^ 64
@@ -130,20 +131,6 @@ module _ (s : List ℕ) (l : Layout) (p i at : ℕ) (e : at ≡ entryAt l p i) w
       let narrow : min (l .«offset_width») 8 ≡ l .«offset_width» = omega arith in
       rw (e, narrow) at h
 
--- A location of six bytes is the archive number in the first two, then the offset in four.
-module _ (s : List ℕ) (at : ℕ) (bytes : (i : ℕ) → byteAt s i < 256) where
-  two-and-four : bigAt s at 6 ≡ bigAt s at 2 * 4294967296 + bigAt s (at + 1 + 1) 4
-  unfolding bigAt
-  two-and-four = omega arith
-
-  pub archive-is : archiveOf (bigAt s at 6) ≡ bigAt s at 2
-  archive-is = rw two-and-four (omega (arith, bigAt-below s bytes (at + 1 + 1) 4))
-
-  pub offset-is : offsetOf (bigAt s at 6) ≡ bigAt s (at + 2) 4
-  offset-is =
-      let two : at + 2 ≡ at + 1 + 1 = omega arith in
-      rw (two, two-and-four) (omega (arith, bigAt-below s bytes (at + 1 + 1) 4))
-
 -- ---- what the checks say
 
 -- a number has room for the offset width of an opened index
@@ -156,7 +143,7 @@ module _ (s sought : List ℕ) where
   unfolding lookupOf
   not-opened e = sym (after-said _ (first-said _ e))
 
-  pub opened-lookup : opening s ≡ silent → length sought ≡ layoutOf s .«key_length» → lookupOf s sought ≡ toldOf s (layoutOf s) (ended (storedIn s (layoutOf s) sought))
+  pub opened-lookup : opening s ≡ silent → length sought ≡ layoutOf s .«key_length» → lookupOf s sought ≡ endOutcome s (layoutOf s) (ended (storedIn s (layoutOf s) sought))
   unfolding lookupOf keyCheck
   opened-lookup e h =
       let right : not (eqb (length sought) (layoutOf s .«key_length»)) ≡ false = ap not (eq-eqb (length sought) (layoutOf s .«key_length») h) in
@@ -169,15 +156,15 @@ module _ (s sought : List ℕ) where
         let wrong : not (eqb (length sought) (layoutOf s .«key_length»)) ≡ true = ap not (ne-eqb (length sought) (layoutOf s .«key_length») (rw g at h)) in
         sym (after-said _ (skip e (said refl wrong)))
 
-    pub looked-up : (r : Answer) → length sought ≡ l .«key_length» → outcome r ≡ toldOf s l (ended (storedIn s l sought)) → outcome r ≡ lookupOf s sought
-    looked-up r h layoutValues = (rw g at layoutValues) ∙ sym (opened-lookup e (rw g at h))
+    pub looked-up : (r : Answer) → length sought ≡ l .«key_length» → outcome r ≡ endOutcome s l (ended (storedIn s l sought)) → outcome r ≡ lookupOf s sought
+    looked-up r h same = (rw g at same) ∙ sym (opened-lookup e (rw g at h))
 
 module _ (s : List ℕ) where
   pub not-bounded : {number place : ℕ} → opening s ≡ refused number place → refusal number place ≡ boundOf s
   unfolding boundOf
   not-bounded e = sym (after-said _ e)
 
-  pub bounded-by : (l : Layout) (a f b : ℕ) → opening s ≡ silent → l ≡ layoutOf s → a ≡ digits (l .pages) → f ≡ full l → b ≡ digits f
+  pub bounded-by : (l : Layout) (a f b : ℕ) → opening s ≡ silent → l ≡ layoutOf s → a ≡ binaryDigits (l .pages) → f ≡ full l → b ≡ binaryDigits f
       → answered ((a + b + 1) ∷ []) ≡ boundOf s
   unfolding boundOf mostOf
   bounded-by l a f b e g ha hf hb = rw (ha, hb, hf, g) (sym (after-quiet _ e))

@@ -1,10 +1,9 @@
 -- The lookup of a key in an archive index: document 01, "Archive index".
 use mathlib.Core.Bool.{Bool, false, not, cond}
 use mathlib.Core.List.{List, [], _∷_}
-use Prim.Native.Nat.{ℕ, _+_, _/_, _%_, _^_}
+use Prim.Native.Nat.{ℕ, _+_}
 use lib.Dec.{ltb, eqb}
 use lib.ListN.{length}
-use Rattle.field.specs.Number.{bigAt}
 use Rattle.parts.specs.Part.{partAt}
 use Rattle.key.specs.declared.Order.{Order}
 use Rattle.key.specs.Order.{compared, isBelow, isEqual}
@@ -12,12 +11,15 @@ use Rattle.refusal.specs.Check.{Check, refusedIf, first}
 use Rattle.refusal.specs.Number.{index-key-length}
 use Rattle.refusal.specs.Outcome.{Outcome, answered, absent, refusal, after}
 use Rattle.halving.specs.declared.Halved.{Halved}
-use Rattle.halving.specs.Halving.{halve, digits}
+use Rattle.halving.specs.Halving.{halve, binaryDigits}
 use Rattle.index_layout.specs.declared.Layout.{Layout}
-use Rattle.index_layout.specs.Layout.{full, onPage, entryAt, lastKeyAt, layoutOf, keyAt}
+use Rattle.index_layout.specs.Layout.{full, onPage, lastKeyAt, layoutOf, keyAt}
+use Rattle.index_layout.specs.Entries.{sizeAt, locationAt}
 use Rattle.index_open.specs.Open.{opening}
 use Rattle.lookup.specs.declared.Answer.{Answer}
 use Rattle.lookup.specs.declared.Answer.the-variants.{Found, Absent, Refused}
+use Rattle.lookup.specs.declared.PageEnd.{PageEnd}
+use Rattle.lookup.specs.declared.SlotEnd.{SlotEnd}
 use Rattle.lookup.specs.declared.Bounded as bounded
 use Rattle.lookup.specs.declared.Bounded.{Bounded}
 
@@ -42,6 +44,13 @@ pub record Ended : Type 0 where
   pub slot : ℕ
   pub count : ℕ
   pub found : Bool
+
+-- The page or the slot where a halving ended, as the declared answers of the code have them.
+abbrev pub pageEnd : PageEnd → Halved
+pageEnd r = record { place = r .page .0; count = r .compared }
+
+abbrev pub slotEnd : SlotEnd → Halved
+slotEnd r = record { place = r .slot .0; count = r .compared }
 
 -- The halving rule on a page's entries: no slot means absent; else one more comparison tells found or absent.
 unfoldable pub slotHalved : Stored → ℕ → Halved
@@ -68,23 +77,9 @@ endedFrom k h =
 unfoldable pub ended : Stored → Ended
 ended k = endedFrom k (pageHalved k)
 
--- The size and the location of an entry, which follow its key.
-unfoldable pub sizeAt : List ℕ → Layout → ℕ → ℕ → ℕ
-sizeAt s l p i = bigAt s (entryAt l p i + l .«key_length») 4
-
-unfoldable pub locationAt : List ℕ → Layout → ℕ → ℕ → ℕ
-locationAt s l p i = bigAt s (entryAt l p i + l .«key_length» + 4) (l .«offset_width»)
-
--- With W = 6 the location is archive number (2 bytes), then offset (4).
-abbrev pub archiveOf : ℕ → ℕ
-archiveOf location = location / 2 ^ 32
-
-abbrev pub offsetOf : ℕ → ℕ
-offsetOf location = location % 2 ^ 32
-
--- What is layoutValues of where a lookup ends: page, slot, size, location and comparisons; of an absent key, the comparisons.
-unfoldable pub toldOf : List ℕ → Layout → Ended → Outcome
-toldOf s l e =
+-- What a lookup gives that ends there: page, slot, size, location and comparisons; of an absent key, the comparisons.
+unfoldable pub endOutcome : List ℕ → Layout → Ended → Outcome
+endOutcome s l e =
     cond (e .found)
     (answered (e .page ∷ e .slot ∷ sizeAt s l (e .page) (e .slot) ∷ locationAt s l (e .page) (e .slot) ∷ e .count ∷ []))
     (absent (0 ∷ 0 ∷ 0 ∷ 0 ∷ e .count ∷ []))
@@ -96,11 +91,11 @@ keyCheck l sought = refusedIf (not (eqb (length sought) (l .«key_length»))) in
 -- The lookup: 1 to 5, 10, then the halving rule.
 unfoldable pub lookupOf : List ℕ → List ℕ → Outcome
 lookupOf s sought =
-    after (first (opening s) (keyCheck (layoutOf s) sought)) (toldOf s (layoutOf s) (ended (storedIn s (layoutOf s) sought)))
+    after (first (opening s) (keyCheck (layoutOf s) sought)) (endOutcome s (layoutOf s) (ended (storedIn s (layoutOf s) sought)))
 
 -- The most comparisons: the binary digits of P and of E, and 1.
 unfoldable pub mostOf : Layout → ℕ
-mostOf l = digits (l .pages) + digits (full l) + 1
+mostOf l = binaryDigits (l .pages) + binaryDigits (full l) + 1
 
 unfoldable pub boundOf : List ℕ → Outcome
 boundOf s = after (opening s) (answered (mostOf (layoutOf s) ∷ []))

@@ -1,10 +1,10 @@
 // The lookup of a key in an archive index, by the halving rule, and how many stored keys it may compare.
 use field::big;
-use halving::Halved;
-use halving::digits;
+use halving::binary_digits;
 use halving::halve;
 use index_layout::Layout;
 use index_layout::Page;
+use index_layout::SIZE_WIDTH;
 use index_layout::Slot;
 use index_open::Checked;
 use parts::equal;
@@ -16,6 +16,7 @@ ghost use mathlib.Core.List.{[], _∷_};
 ghost use Prim.Native.Nat.{_≤_};
 ghost use lib.ListN.{length};
 ghost use Rattle.refusal.specs.Outcome.{answered};
+ghost use Rattle.index_layout.specs.Entries as entries;
 ghost use Rattle.lookup.specs.Lookup as spec;
 
 // A found entry, and how many stored keys were compared.
@@ -40,48 +41,55 @@ pub enum Bounded {
     Refused(Refusal),
 }
 
-// The archive number in a location of six bytes.
-pub fn archive(location: u64) -> u32
-    ensures { λ r. ⌜ r ≡ spec.archiveOf location ⌝ }
-{
-    (location / 4_294_967_296) as u32
+// The page where the halving over the last keys ended, and how many it compared.
+struct PageEnd {
+    page: Page,
+    compared: u32,
 }
 
-// The offset in a location of six bytes.
-pub fn offset(location: u64) -> u32
-    ensures { λ r. ⌜ r ≡ spec.offsetOf location ⌝ }
-{
-    (location % 4_294_967_296) as u32
+// The slot where the halving over a page's entries ended, and how many it compared.
+struct SlotEnd {
+    slot: Slot,
+    compared: u32,
 }
 
 // Halves over the last keys.
-fn find_page(index: &[u8], l: Layout, key: &[u8]) -> Halved
+fn find_page(index: &[u8], l: Layout, key: &[u8]) -> PageEnd
     requires { ⌜ length (now key) ≡ l .«key_length» ⌝ }
-    ensures { λ r. ⌜ r ≡ spec.pageHalved (spec.storedIn (now (index .entry)) l (now (key .entry))) ⌝ }
-    ensures { λ r. ⌜ r .count ≤ 32 ⌝ }
+    ensures { λ r. ⌜ spec.pageEnd r ≡ spec.pageHalved (spec.storedIn (now (index .entry)) l (now (key .entry))) ⌝ }
+    ensures { λ r. ⌜ r .compared ≤ 32 ⌝ }
 {
     let last_keys = part(index, l.last_key_at(Page(0)), index.len());
-    halve(last_keys, l.key_length as u16, l.pages, key)
+    let halved = halve(last_keys, l.key_length as u16, l.pages, key);
+    PageEnd {
+        page: Page(halved.place),
+        compared: halved.count,
+    }
 }
 
 // Halves over a page's entries.
-fn find_slot(index: &[u8], l: Layout, key: &[u8], page: Page) -> Halved
+fn find_slot(index: &[u8], l: Layout, key: &[u8], page: Page) -> SlotEnd
     requires { ⌜ length (now key) ≡ l .«key_length» ⌝ }
-    ensures { λ r. ⌜ r ≡ spec.slotHalved (spec.storedIn (now (index .entry)) l (now (key .entry))) (page .0) ⌝ }
-    ensures { λ r. ⌜ r .count ≤ 32 ⌝ }
+    ensures { λ r. ⌜ spec.slotEnd r ≡ spec.slotHalved (spec.storedIn (now (index .entry)) l (now (key .entry))) (page .0) ⌝ }
+    ensures { λ r. ⌜ r .compared ≤ 32 ⌝ }
 {
     let entries = part(index, l.entry_at(page, Slot(0)), index.len());
-    halve(entries, l.entry_size() as u16, l.on_page(page) as u32, key)
+    let count = l.on_page(page) as u32;
+    let halved = halve(entries, l.entry_size() as u16, count, key);
+    SlotEnd {
+        slot: Slot(halved.place),
+        compared: halved.count,
+    }
 }
 
 // The entry in a slot.
 fn found(index: &[u8], l: Layout, page: Page, slot: Slot, compared: u32) -> Answer
     requires { ⌜ l .«offset_width» ≤ 8 ⌝ }
-    ensures { λ r. ⌜ spec.outcome r ≡ answered (page .0 ∷ slot .0 ∷ spec.sizeAt (now (index .entry)) l (page .0) (slot .0) ∷ spec.locationAt (now (index .entry)) l (page .0) (slot .0) ∷ compared ∷ []) ⌝ }
+    ensures { λ r. ⌜ spec.outcome r ≡ answered (page .0 ∷ slot .0 ∷ entries.sizeAt (now (index .entry)) l (page .0) (slot .0) ∷ entries.locationAt (now (index .entry)) l (page .0) (slot .0) ∷ compared ∷ []) ⌝ }
 {
     let at = l.entry_at(page, slot) + l.key_length as usize;
-    let size = big(index, at, 4) as u32;
-    let location = big(index, at + 4, l.offset_width as usize);
+    let size = big(index, at, SIZE_WIDTH as usize) as u32;
+    let location = big(index, at + SIZE_WIDTH as usize, l.offset_width as usize);
     Answer::Found(Entry {
         page,
         slot,
@@ -94,32 +102,32 @@ fn found(index: &[u8], l: Layout, page: Page, slot: Slot, compared: u32) -> Answ
 // A page's entries, after some comparisons of last keys.
 fn seek_on(index: &[u8], l: Layout, key: &[u8], page: Page, count: u32) -> Answer
     requires { ⌜ (length (now key) ≡ l .«key_length») × (l .«offset_width» ≤ 8) × (count ≤ 32) ⌝ }
-    ensures { λ r. ⌜ spec.outcome r ≡ spec.toldOf (now (index .entry)) l (spec.endedOn (spec.storedIn (now (index .entry)) l (now (key .entry))) (page .0) count) ⌝ }
+    ensures { λ r. ⌜ spec.outcome r ≡ spec.endOutcome (now (index .entry)) l (spec.endedOn (spec.storedIn (now (index .entry)) l (now (key .entry))) (page .0) count) ⌝ }
 {
-    let halved = find_slot(index, l, key, page);
-    let slot = halved.place;
-    let compared = count + halved.count;
-    if l.on_page(page) <= slot as usize {
+    let end = find_slot(index, l, key, page);
+    let slot = end.slot;
+    let compared = count + end.compared;
+    if l.on_page(page) <= slot.0 as usize {
         return Answer::Absent(compared);
     }
-    let at = l.entry_at(page, Slot(slot));
+    let at = l.entry_at(page, slot);
     if !equal(part(index, at, l.key_length as usize), key) {
         return Answer::Absent(compared + 1);
     }
-    found(index, l, page, Slot(slot), compared + 1)
+    found(index, l, page, slot, compared + 1)
 }
 
 // The last keys, then the entries of the page that they tell.
 fn seek(index: &[u8], l: Layout, key: &[u8]) -> Answer
     requires { ⌜ (length (now key) ≡ l .«key_length») × (l .«offset_width» ≤ 8) ⌝ }
-    ensures { λ r. ⌜ spec.outcome r ≡ spec.toldOf (now (index .entry)) l (spec.ended (spec.storedIn (now (index .entry)) l (now (key .entry)))) ⌝ }
+    ensures { λ r. ⌜ spec.outcome r ≡ spec.endOutcome (now (index .entry)) l (spec.ended (spec.storedIn (now (index .entry)) l (now (key .entry)))) ⌝ }
 {
-    let halved = find_page(index, l, key);
-    let page = halved.place;
-    if l.pages <= page {
-        return Answer::Absent(halved.count);
+    let end = find_page(index, l, key);
+    let page = end.page;
+    if l.pages <= page.0 {
+        return Answer::Absent(end.compared);
     }
-    seek_on(index, l, key, Page(page), halved.count)
+    seek_on(index, l, key, page, end.compared)
 }
 
 // Looks a key up. Refusals 1 to 5, then 10; no page is checked.
@@ -146,6 +154,8 @@ pub fn bound(index: &[u8]) -> Bounded
 {
     match index_open::open(index) {
         Checked::Refused(r) => Bounded::Refused(r),
-        Checked::Passed(l) => Bounded::Comparisons(digits(l.pages) + digits(l.full() as u32) + 1),
+        Checked::Passed(l) => {
+            Bounded::Comparisons(binary_digits(l.pages) + binary_digits(l.full() as u32) + 1)
+        },
     }
 }

@@ -9,6 +9,7 @@ use borrow.Author.Needs.{needs}
 use Rattle.refusal.specs.Output.{filled}
 use Rattle.parts.specs.Part.{partAt, partsFrom}
 use Rattle.parts.proofs.Parts.{filled-length, parts-room, part-turn}
+use Rattle.index_layout.specs.Layout.{pageSize}
 use Rattle.index_layout.specs.Entries.{entriesOf, entriesBy}
 use Rattle.index_layout.proofs.Laws.{on-page-fits}
 use Rattle.entries.proofs.fill.Statement.{statement}
@@ -35,14 +36,11 @@ on-page-requires c κs = search needs
 mul-bytes : tie.Need-mul-bytes Inv-loop μ-loop
 mul-bytes c =
     let a = c .before .before .before .before .before .before .args in
-    let fits : c .on-page .result * c .before .before .before .entry-size .result ≤ 4096 = rw (c .on-page .ensures, c .before .before .before .entry-size .ensures .0) (on-page-fits (a .l) (c .before .before .loop .p)) in
+    let fits : c .on-page .result * c .before .before .before .entry-size .result ≤ pageSize = rw (c .on-page .ensures, c .before .before .before .entry-size .ensures .0) (on-page-fits (a .l) (c .before .before .loop .p)) in
     omega arith
 
-cast-part : tie.Need-cast-part Inv-loop μ-loop
-cast-part c = search needs
-
-mul-part : tie.Need-mul-part Inv-loop μ-loop
-mul-part c = search needs
+page-at-requires : tie.Need-page-at-requires Inv-loop μ-loop
+page-at-requires c κs = search needs
 
 part-requires : tie.Need-part-requires Inv-loop μ-loop
 part-requires c κs = search needs
@@ -53,11 +51,11 @@ copy-requires c κs = search needs
 add-to : tie.Need-add-to Inv-loop μ-loop
 unfolding entriesBy
 add-to c =
-    let a = c .before .before .before .before .before .before .before .before .before .before .before .args in
-    let l = c .before .before .before .before .before .before .before .loop in
-    let page = c .before .before .before .before .part .ensures ∙ ap (partAt (a .index .now) (l .p * 4096)) (ap₂ (λ m n. m * n) (c .before .before .before .before .before .on-page .ensures) (c .before .before .before .before .before .before .before .before .entry-size .ensures .0)) in
-    let turn = part-turn (entriesOf (a .index .now) (a .l)) (l .p) (a .l .pages) _ (a .output .now) _ _ (c .before .before .before .before .before .before .loop-test .taken) (c .before .before .before .before .before .before .before .before .before .before .before .pre) page (l .inv .1) (l .inv .2) in
-    omega (arith, turn .0, parts-room (entriesOf (a .index .now) (a .l)) (l .p + 1) (a .l .pages) (omega arith), c .before .before .before .before .before .before .before .before .before .before .before .pre, c .before .before .before .before .before .before .before .before .before .before .before .good)
+    let a = c .before .before .before .before .before .before .before .before .before .before .before .before .args in
+    let l = c .before .before .before .before .before .before .before .before .loop in
+    let page = c .before .before .before .before .part .ensures ∙ ap₂ (partAt (a .index .now)) (c .before .before .before .before .before .page-at .ensures) (ap₂ (λ m n. m * n) (c .before .before .before .before .before .before .on-page .ensures) (c .before .before .before .before .before .before .before .before .before .entry-size .ensures .0)) in
+    let turn = part-turn (entriesOf (a .index .now) (a .l)) (l .p) (a .l .pages) _ (a .output .now) _ _ (c .before .before .before .before .before .before .before .loop-test .taken) (c .before .before .before .before .before .before .before .before .before .before .before .before .pre) page (l .inv .1) (l .inv .2) in
+    omega (arith, turn .0, parts-room (entriesOf (a .index .now) (a .l)) (l .p + 1) (a .l .pages) (omega arith), c .before .before .before .before .before .before .before .before .before .before .before .before .pre, c .before .before .before .before .before .before .before .before .before .before .before .before .good)
 
 add-p : tie.Need-add-p Inv-loop μ-loop
 add-p c = search needs
@@ -68,10 +66,10 @@ loop-less c = search needs
 loop-again : tie.Need-loop-again Inv-loop μ-loop
 unfolding entriesBy
 loop-again c =
-    let a = c .before .before .before .before .before .before .before .before .before .before .before .args in
-    let l = c .before .before .before .before .before .before .before .loop in
-    let page = c .before .before .before .before .part .ensures ∙ ap (partAt (a .index .now) (l .p * 4096)) (ap₂ (λ m n. m * n) (c .before .before .before .before .before .on-page .ensures) (c .before .before .before .before .before .before .before .before .entry-size .ensures .0)) in
-    let turn = part-turn (entriesOf (a .index .now) (a .l)) (l .p) (a .l .pages) _ (a .output .now) _ _ (c .before .before .before .before .before .before .loop-test .taken) (c .before .before .before .before .before .before .before .before .before .before .before .pre) page (l .inv .1) (l .inv .2) in
+    let a = c .before .before .before .before .before .before .before .before .before .before .before .before .args in
+    let l = c .before .before .before .before .before .before .before .before .loop in
+    let page = c .before .before .before .before .part .ensures ∙ ap₂ (partAt (a .index .now)) (c .before .before .before .before .before .page-at .ensures) (ap₂ (λ m n. m * n) (c .before .before .before .before .before .before .on-page .ensures) (c .before .before .before .before .before .before .before .before .before .entry-size .ensures .0)) in
+    let turn = part-turn (entriesOf (a .index .now) (a .l)) (l .p) (a .l .pages) _ (a .output .now) _ _ (c .before .before .before .before .before .before .before .loop-test .taken) (c .before .before .before .before .before .before .before .before .before .before .before .before .pre) page (l .inv .1) (l .inv .2) in
     (search needs, turn .0, c .before .before .copy .ensures ∙ turn .1)
 
 same-length : tie.Need-same-length Inv-loop μ-loop
@@ -99,8 +97,7 @@ fill-spec =
     loop-holds
     on-page-requires
     mul-bytes
-    cast-part
-    mul-part
+    page-at-requires
     part-requires
     copy-requires
     add-to

@@ -22,14 +22,17 @@ add-middle c = search needs
 add-compared : tie.Need-add-compared Inv-loop μ-loop
 add-compared c = search needs
 
-cast-is-below : tie.Need-cast-is-below Inv-loop μ-loop
-cast-is-below c = search needs
+cast-part : tie.Need-cast-part Inv-loop μ-loop
+cast-part c = search needs
 
-mul-is-below : tie.Need-mul-is-below Inv-loop μ-loop
-mul-is-below c = offset-fits (omega arith) (omega arith)
+mul-part : tie.Need-mul-part Inv-loop μ-loop
+mul-part c = offset-fits (omega arith) (omega arith)
 
-is-below-requires : tie.Need-is-below-requires Inv-loop μ-loop
-is-below-requires c κs = search needs
+part-requires : tie.Need-part-requires Inv-loop μ-loop
+part-requires c κs = search needs
+
+rises-requires : tie.Need-rises-requires Inv-loop μ-loop
+rises-requires c κs = search needs
 
 add-start : tie.Need-add-start Inv-loop μ-loop
 add-start c = search needs
@@ -46,7 +49,7 @@ loop-less c = search needs
 loop-again : tie.Need-loop-again Inv-loop μ-loop
 unfolding keyBelow
 loop-again c =
-    reached-after (c .before .before .before .loop .inv) (search needs) (sym (c .before .is-below .ensures) ∙ c .if1 .taken)
+    reached-after (c .before .before .before .before .loop .inv) (search needs) (sym (rw (c .before .before .part .ensures) at (c .before .rises .ensures)) ∙ c .if1 .taken)
 
 loop-less-2 : tie.Need-loop-less-2 Inv-loop μ-loop
 loop-less-2 c = search needs
@@ -54,7 +57,7 @@ loop-less-2 c = search needs
 loop-again-2 : tie.Need-loop-again-2 Inv-loop μ-loop
 unfolding keyBelow
 loop-again-2 c =
-    reached-before (c .before .before .before .loop .inv) (search needs) (sym (c .before .is-below .ensures) ∙ c .if1 .left)
+    reached-before (c .before .before .before .before .loop .inv) (search needs) (sym (rw (c .before .before .part .ensures) at (c .before .rises .ensures)) ∙ c .if1 .left)
 
 returns : tie.Need-returns Inv-loop μ-loop
 returns c =
@@ -70,9 +73,10 @@ halve-spec =
     loop-holds
     add-middle
     add-compared
-    cast-is-below
-    mul-is-below
-    is-below-requires
+    cast-part
+    mul-part
+    part-requires
+    rises-requires
     add-start
     sub-left
     sub-left-2

@@ -1,4 +1,4 @@
--- `key::text::digit`: a range of characters for each case.
+-- `key_text::digit`: a range of characters for each case.
 use mathlib.Core.Logic.{inl, inr}
 use native.Mathlib.Omega.{arith}
 use borrow.Author.Needs.{needs}

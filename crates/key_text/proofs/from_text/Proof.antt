@@ -1,4 +1,4 @@
--- `key::text::from_text`: zeros beside a refusal, else what `read` gives.
+-- `key_text::from_text`: zeros beside a refusal, else what `read` gives.
 use mathlib.Core.Path.{_∙_}
 use native.Mathlib.Omega.{arith}
 use borrow.Author.Needs.{needs}

@@ -17,17 +17,17 @@ enum-known-r c = search needs
 enum-known-l : tie.Need-enum-known-l
 enum-known-l c = search needs
 
-digits-requires : tie.Need-digits-requires
-digits-requires c κs = search needs
+binary-digits-requires : tie.Need-binary-digits-requires
+binary-digits-requires c κs = search needs
 
 full-requires : tie.Need-full-requires
 full-requires c κs = search needs
 
-cast-digits : tie.Need-cast-digits
-cast-digits c = search needs
+cast-binary-digits : tie.Need-cast-binary-digits
+cast-binary-digits c = search needs
 
-digits-requires-2 : tie.Need-digits-requires-2
-digits-requires-2 c κs = search needs
+binary-digits-requires-2 : tie.Need-binary-digits-requires-2
+binary-digits-requires-2 c κs = search needs
 
 add-t10 : tie.Need-add-t10
 add-t10 c = search needs
@@ -48,7 +48,7 @@ returns-2 c =
     let s = c .before .before .before .before .before .before .before .before .args .index .now in
     let o = c .before .before .before .before .before .before .open in
     let opened = passed-index (opening s) _ (layoutOf s) (o .result) (o .ensures) (c .before .before .before .before .l .given .1) in
-    bounded-by s _ _ _ _ (opened .0) (opened .1) (c .before .before .digits .ensures .0) (c .before .full .ensures .0) (c .digits2 .ensures .0)
+    bounded-by s _ _ _ _ (opened .0) (opened .1) (c .before .before .binary-digits .ensures .0) (c .before .full .ensures .0) (c .binary-digits2 .ensures .0)
 
 pub bound-spec : {M : Type 1} → statement M
 bound-spec =
@@ -57,10 +57,10 @@ bound-spec =
     open-requires
     enum-known-r
     enum-known-l
-    digits-requires
+    binary-digits-requires
     full-requires
-    cast-digits
-    digits-requires-2
+    cast-binary-digits
+    binary-digits-requires-2
     add-t10
     add-t11
     returns

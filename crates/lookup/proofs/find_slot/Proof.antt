@@ -12,19 +12,19 @@ entry-at-requires c κs = search needs
 part-requires : tie.Need-part-requires
 part-requires c κs = search needs
 
+on-page-requires : tie.Need-on-page-requires
+on-page-requires c κs = search needs
+
+cast-count : tie.Need-cast-count
+cast-count c =
+    let a = c .before .before .before .before .before .args in
+    record { fits = omega (arith, c .on-page .ensures, on-page-most (a .l) (a .page .0)) }
+
 entry-size-requires : tie.Need-entry-size-requires
 entry-size-requires c κs = search needs
 
 cast-halve : tie.Need-cast-halve
 cast-halve c = search needs
-
-on-page-requires : tie.Need-on-page-requires
-on-page-requires c κs = search needs
-
-cast-halve-2 : tie.Need-cast-halve-2
-cast-halve-2 c =
-    let a = c .before .before .before .before .before .before .args in
-    record { fits = omega (arith, c .on-page .ensures, on-page-most (a .l) (a .page .0)) }
 
 halve-requires : tie.Need-halve-requires
 halve-requires c κs = search needs
@@ -33,7 +33,7 @@ returns : tie.Need-returns
 returns c =
     let start = c .before .before .before .before .before .before .before in
     let a = start .args in (
-      slot-halved _ _ (a .l) (start .pre) _ (a .page .0) _ _ _ _ (c .before .before .before .part .ensures) (c .before .before .before .before .entry-at .ensures) (c .before .before .entry-size .ensures .0) (c .before .on-page .ensures) (c .halve .ensures .0),
+      slot-halved _ _ (a .l) (start .pre) _ (a .page .0) _ _ _ _ (c .before .before .before .part .ensures) (c .before .before .before .before .entry-at .ensures) (c .before .entry-size .ensures .0) (c .before .before .on-page .ensures) (c .halve .ensures .0),
       c .halve .ensures .1,
     )
 
@@ -43,9 +43,9 @@ find-slot-spec =
     (tie.spec
     entry-at-requires
     part-requires
+    on-page-requires
+    cast-count
     entry-size-requires
     cast-halve
-    on-page-requires
-    cast-halve-2
     halve-requires
     returns)

@@ -20,6 +20,9 @@ add-at c =
     let a = c .before .before .before .args in
     omega (arith, entry-fits (a .l) (a .page .0) (a .slot .0) _ (c .before .entry-at .ensures) (search needs) (search needs) (search needs) (search needs))
 
+cast-big : tie.Need-cast-big
+cast-big c = search needs
+
 big-requires : tie.Need-big-requires
 big-requires c κs = search needs
 
@@ -27,13 +30,16 @@ cast-size : tie.Need-cast-size
 cast-size c =
     record { fits = size-fits _ _ _ (λ i. c .before .before .before .shared-slice-known .given i .fits) (c .big .ensures) }
 
+cast-big-2 : tie.Need-cast-big-2
+cast-big-2 c = search needs
+
 add-big : tie.Need-add-big
 add-big c =
     let a = c .before .before .before .before .args in
     omega (arith, entry-fits (a .l) (a .page .0) (a .slot .0) _ (c .before .before .entry-at .ensures) (search needs) (search needs) (search needs) (search needs))
 
-cast-big : tie.Need-cast-big
-cast-big c = search needs
+cast-big-3 : tie.Need-cast-big-3
+cast-big-3 c = search needs
 
 big-requires-2 : tie.Need-big-requires-2
 big-requires-2 c κs = search needs
@@ -54,9 +60,11 @@ found-spec =
     entry-at-requires
     cast-at
     add-at
+    cast-big
     big-requires
     cast-size
+    cast-big-2
     add-big
-    cast-big
+    cast-big-3
     big-requires-2
     returns)

@@ -18,8 +18,8 @@ cast-if1 c = search needs
 
 returns : tie.Need-returns
 returns c =
-    let a = c .before .before .before .before .before .before .args in
-    no-slot _ _ (a .l) (a .page .0) (a .count) _ _ (c .before .before .before .find-slot .ensures .0) (c .before .on-page .ensures) (c .if1 .taken)
+    let a = c .before .before .before .before .before .before .before .before .args in
+    no-slot _ _ (a .l) (a .page .0) (a .count) _ _ (c .before .before .before .before .before .find-slot .ensures .0) (c .before .before .on-page .ensures) (c .if1 .taken)
 
 entry-at-requires : tie.Need-entry-at-requires
 entry-at-requires c κs = search needs
@@ -33,13 +33,13 @@ part-requires c κs = search needs
 equal-requires : tie.Need-equal-requires
 equal-requires c κs = search needs
 
-add-t16 : tie.Need-add-t16
-add-t16 c = search needs
+add-t15 : tie.Need-add-t15
+add-t15 c = search needs
 
 returns-2 : tie.Need-returns-2
 returns-2 c =
-    let a = c .before .before .before .before .before .before .before .before .before .before .before .args in
-    other-key _ _ (a .l) (a .page .0) (a .count) _ _ (c .before .before .before .before .before .before .before .before .find-slot .ensures .0) (c .before .before .before .before .before .before .on-page .ensures)
+    let a = c .before .before .before .before .before .before .before .before .before .before .before .before .before .args in
+    other-key _ _ (a .l) (a .page .0) (a .count) _ _ (c .before .before .before .before .before .before .before .before .before .before .find-slot .ensures .0) (c .before .before .before .before .before .before .before .on-page .ensures)
     _ _ _ (c .before .before .before .before .before .if1 .left) (c .before .before .before .before .entry-at .ensures) (c .before .before .part .ensures) (c .before .equal .ensures) (c .if2 .taken)
 
 add-found : tie.Need-add-found
@@ -50,8 +50,8 @@ found-requires c κs = search needs
 
 returns-3 : tie.Need-returns-3
 returns-3 c =
-    let a = c .before .before .before .before .before .before .before .before .before .before .before .before .args in
-    same-key _ _ (a .l) (a .page .0) (a .count) _ _ (c .before .before .before .before .before .before .before .before .before .find-slot .ensures .0) (c .before .before .before .before .before .before .before .on-page .ensures)
+    let a = c .before .before .before .before .before .before .before .before .before .before .before .before .before .before .args in
+    same-key _ _ (a .l) (a .page .0) (a .count) _ _ (c .before .before .before .before .before .before .before .before .before .before .before .find-slot .ensures .0) (c .before .before .before .before .before .before .before .before .on-page .ensures)
     _ _ _ (c .before .before .before .before .before .before .if1 .left) (c .before .before .before .before .before .entry-at .ensures) (c .before .before .before .part .ensures) (c .before .before .equal .ensures)
     _ (c .before .if2 .left) (c .found .ensures)
 
@@ -68,7 +68,7 @@ seek-on-spec =
     cast-part
     part-requires
     equal-requires
-    add-t16
+    add-t15
     returns-2
     add-found
     found-requires

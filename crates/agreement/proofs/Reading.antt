@@ -11,10 +11,11 @@ use Rattle.key.proofs.Laws.{equal-of-eq}
 use Rattle.halving.proofs.Laws.{by-order}
 use Rattle.index_layout.specs.declared.Layout.{Layout}
 use Rattle.index_layout.specs.Layout.{onPage, layoutOf, keyAt}
-use Rattle.lookup.specs.Lookup.{storedIn, Ended, sizeAt, locationAt, toldOf}
-use Rattle.lookup.specs.Plain.{Plain, found, absent, entriesFrom, pagesFrom, plainReading, withCount}
+use Rattle.index_layout.specs.Entries.{sizeAt, locationAt}
+use Rattle.lookup.specs.Lookup.{storedIn, Ended, endOutcome}
+use Rattle.agreement.specs.Plain.{Plain, found, absent, entriesFrom, pagesFrom, plainReading, withCount}
 use Rattle.lookup.proofs.Laws.{equal-is-same}
-use Rattle.lookup.proofs.Agreement.{Settled}
+use Rattle.agreement.proofs.Agreement.{Settled}
 
 module _ (s : List ℕ) (l : Layout) (sought : List ℕ) where
   entries-none : (p i n : ℕ) (after : Plain) → ((j : ℕ) → j < i + n → sameBytes (keyAt s l p j) sought ≡ false)
@@ -48,7 +49,7 @@ module _ (s : List ℕ) (l : Layout) (sought : List ℕ) where
       (λ m. let same : p ≡ q = omega arith in
       rw same (entries-found q 0 (onPage l q) j _ (omega arith) (omega arith) inside e))
 
--- What is layoutValues of an end that is settled is what the plain reading says, with the comparisons.
+-- What is told of an end that is settled is what the plain reading says, with the comparisons.
 module _ (s sought : List ℕ) (e : Ended) (end : Settled (storedIn s (layoutOf s) sought) e) where
   reads-found : e .found ≡ true
       → plainReading s sought ≡ found (e .page) (e .slot) (sizeAt s (layoutOf s) (e .page) (e .slot)) (locationAt s (layoutOf s) (e .page) (e .slot))
@@ -66,10 +67,10 @@ module _ (s sought : List ℕ) (e : Ended) (end : Settled (storedIn s (layoutOf 
       pages-none s (layoutOf s) sought 0 (layoutOf s .pages)
       (λ q i h m. sameBytes-not _ sought (λ same. end .absent t .none q i (omega arith) m (equal-of-eq _ sought same)))
 
-  pub reads : toldOf s (layoutOf s) e ≡ withCount (plainReading s sought) (e .count)
-  unfolding toldOf withCount
+  pub reads : endOutcome s (layoutOf s) e ≡ withCount (plainReading s sought) (e .count)
+  unfolding endOutcome withCount
   reads = go (e .found) refl
     where
-      go : (b : Bool) → e .found ≡ b → toldOf s (layoutOf s) e ≡ withCount (plainReading s sought) (e .count)
+      go : (b : Bool) → e .found ≡ b → endOutcome s (layoutOf s) e ≡ withCount (plainReading s sought) (e .count)
       go true t = rw (t, reads-found t)
       go false t = rw (t, reads-none t)

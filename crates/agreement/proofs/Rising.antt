@@ -20,8 +20,8 @@ use Rattle.index_layout.specs.declared.Layout.{Layout}
 use Rattle.index_layout.specs.Layout.{onPage, lastKeyAt, keyAt}
 use Rattle.index.specs.Check.{pageHashCheck, paddingCheck, orderCheck, lastKeyCheck, pageCheck, pagesCheck, notAbove}
 use Rattle.index.proofs.Laws.{not-above-first, not-above-next}
 use Rattle.lookup.specs.Lookup.{storedIn}
-use Rattle.lookup.proofs.Agreement.{Sorted}
+use Rattle.agreement.proofs.Agreement.{Sorted}
 
 -- ---- what the checks of the pages say
 

@@ -7,7 +7,7 @@ use Rattle.refusal.specs.Outcome as outcome
 use Rattle.refusal.specs.Outcome.{Outcome, answered}
 use Rattle.index_layout.specs.declared.Layout.{Layout}
 use Rattle.index_layout.specs.Layout.{onPage, layoutOf, keyAt}
-use Rattle.lookup.specs.Lookup.{sizeAt, locationAt}
+use Rattle.index_layout.specs.Entries.{sizeAt, locationAt}
 
 pub data Plain : Type 0 where
   found : (page slot size location : ℕ) → Plain

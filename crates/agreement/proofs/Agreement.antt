@@ -8,9 +8,9 @@ use borrow.Author.Tests.{lt-ltb, le-ltb}
 use Rattle.key.specs.declared.Order.the-variants.{Below, Equal, Above}
 use Rattle.key.specs.Order.{isBelow, isEqual}
 use Rattle.key.proofs.Laws.{below-not-equal, below-not-above, equal-not-above, isBelow-true, isEqual-true}
-use Rattle.halving.specs.Halving.{digits}
+use Rattle.halving.specs.Halving.{binaryDigits}
 use Rattle.halving.proofs.Laws.{true-or-false, by-order, Rising, First, halve-first, halve-count, digits-mono}
 use Rattle.lookup.specs.Lookup.{Stored, Ended, slotHalved, endedAt, endedOn, pageHalved, endedFrom, ended}
 
 -- Keys that rise: where a later key is not above the sought one, every earlier one is below it, in one page and from page to
 -- page. Every page has an entry, and its stored last key stands as that of its last entry.
@@ -126,14 +126,14 @@ module _ (k : Stored) (sorted : Sorted k) where
 
 -- The comparisons: at most the binary digits of the pages and of the most entries on a page, and 1.
 module _ (k : Stored) (most : ℕ) (room : (p : ℕ) → k .entries p ≤ most) where
-  count-on : (p count : ℕ) → endedOn k p count .count ≤ count + digits most + 1
+  count-on : (p count : ℕ) → endedOn k p count .count ≤ count + binaryDigits most + 1
   unfolding endedOn endedAt slotHalved
   count-on p count =
       let few = halve-count (λ i. isBelow (k .key p i)) (k .entries p) in
       let more = digits-mono (room p) in
       by-order (slotHalved k p .place) (k .entries p) (λ l. rw (lt-ltb _ _ l) (omega arith)) (λ l. rw (le-ltb _ _ l) (omega arith))
 
-  pub ended-count : ended k .count ≤ digits (k .pages) + digits most + 1
+  pub ended-count : ended k .count ≤ binaryDigits (k .pages) + binaryDigits most + 1
   unfolding ended endedFrom pageHalved
   ended-count =
       let few = halve-count (λ p. isBelow (k .last p)) (k .pages) in

@@ -1,0 +1,50 @@
+-- Demand 3: on any index that passes the full check and any key of its length, the halving lookup refuses nothing, finds exactly
+-- what the plain reading from first entry to last finds, with the same page, slot, size and location, and carries the number of
+-- keys compared, which equals the written rule's and is at most digits(pages) + digits(entries of a full page) + 1.
+use mathlib.Core.Path.{_≡_}
+use mathlib.Core.List.{List, [], _∷_}
+use Prim.Native.Nat.{ℕ, _≤_}
+use lib.ListN.{length}
+use Rattle.refusal.specs.Outcome.{Outcome, answered}
+use Rattle.index_layout.specs.declared.Layout.{Layout}
+use Rattle.index_layout.specs.Layout.{layoutOf}
+use Rattle.index_open.specs.declared.Checked.{Checked}
+use Rattle.index_open.specs.declared.Checked.the-variants.{Passed}
+use Rattle.index_open.specs.Open as checks
+use Rattle.index.specs.Check.{checkOutcome}
+use Rattle.lookup.specs.declared.Answer.{Answer}
+use Rattle.lookup.specs.declared.Bounded.{Bounded}
+use Rattle.lookup.specs.Lookup.{storedIn, ended, lookupOf, mostOf, boundOf, outcome, boundOutcome}
+use Rattle.agreement.specs.Plain.{plainReading, withCount}
+
+-- The number of keys compared by the written rule: the halving rule on the last keys, then on a page's entries.
+abbrev pub comparisons : List ℕ → List ℕ → ℕ
+comparisons s sought = ended (storedIn s (layoutOf s) sought) .count
+
+-- What an outcome of a lookup in s must be.
+pub record Agrees (s sought : List ℕ) (looked : Outcome) : Type 0 where
+  -- Nothing is refused; it is found exactly where the plain reading finds, with the same page, slot, size and location, and
+  -- absent exactly where the plain reading says so; the count is the written rule's.
+  pub answer : looked ≡ withCount (plainReading s sought) (comparisons s sought)
+  -- At most digits(pages) + digits(entries of a full page) + 1.
+  pub bound : comparisons s sought ≤ mostOf (layoutOf s)
+
+-- Calls of the functions on an index and a key: what each answered, as its contract says, where the full check passed and the
+-- key has the index's length.
+pub record Calls (s sought : List ℕ) : Type 0 where
+  -- `index::check` answered `checked`, `lookup::lookup` answered `looked` and `lookup::bound` answered `most`.
+  pub checked : Checked
+  pub looked : Answer
+  pub most : Bounded
+  pub check-ensures : checks.outcome checked ≡ checkOutcome s
+  pub lookup-ensures : outcome looked ≡ lookupOf s sought
+  pub bound-ensures : boundOutcome most ≡ boundOf s
+  -- The premises.
+  pub layout : Layout
+  pub passed : checked ≡ Passed layout
+  pub key-length : length sought ≡ layout .«key_length»
+
+-- The demand of these calls: the lookup's answer agrees, and the bound's answer is that bound.
+pub record Demand3 (s sought : List ℕ) (c : Calls s sought) : Type 0 where
+  pub agrees : Agrees s sought (outcome (c .looked))
+  pub bounded : boundOutcome (c .most) ≡ answered (mostOf (layoutOf s) ∷ [])
