@@ -33,6 +33,12 @@ module _ (list : List ℕ) (l : Layout) (h : Held list l) where
       let tight : p * full l < l .entries = pages-tight (l .entries) (full l) p full-positive (rw (h .paged) at k) in
       (omega (arith, tight), omega (arith, tight, full-positive))
 
+  -- every page but the last is full
+  pub page-full : (p : ℕ) → p + 1 < l .pages → onPage l p ≡ full l
+  unfolding onPage
+  page-full p k =
+      omega (arith, pages-tight (l .entries) (full l) (p + 1) full-positive (rw (h .paged) at k), add-mul p 1 (full l), one-mul (full l))
+
   entries-inside : (p : ℕ) → p < l .pages → listAt l p 0 + onPage l p * entrySize l ≤ length list
   entries-inside p k =
       omega (arith, h .bytes, mul-le-mul-right (entrySize l) (some-on-page p k .0), add-mul (p * full l) (onPage l p) (entrySize l), ap (λ n. n * entrySize l) (add-zero (p * full l)))

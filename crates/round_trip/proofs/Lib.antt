@@ -1,4 +1,3 @@
 pub mod Paged
-pub mod Back
 pub mod Again
-pub mod Demand2
+pub mod Back

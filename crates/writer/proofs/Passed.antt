@@ -15,7 +15,7 @@ use Rattle.refusal.specs.Number.{settings, list-length, entry-count, index-orde
 use Rattle.refusal.proofs.Laws.{silent-test, first-left, first-right, from-each}
 use Rattle.index_layout.specs.Layout as layout
 use Rattle.index_layout.specs.Layout.{leastVersion, mostVersion, leastOffsetWidth, mostOffsetWidth, leastKeyLength, mostKeyLength, mostEntries, countCheck, full, indexLength}
-use Rattle.index_open.proofs.Opened.{within-range}
+use Rattle.field.proofs.Laws.{within-range}
 use Rattle.writer.specs.declared.Settings.{Settings}
 use Rattle.writer.specs.Write.{listEntrySize, listCount, layoutFor, settingsRight, settingsCheck, wholeCheck, keyIn, listOrderCheck, risingCheck, writeCheck}
 use Rattle.index_file.specs.Held.{Held}
@@ -40,8 +40,8 @@ right s e =
     let key : Bool = within (s .«key_length») leastKeyLength mostKeyLength in
     let all = and-eq-true-iff (within (s .version) leastVersion mostVersion) (width && key) .0 e in
     let two = and-eq-true-iff width key .0 (all .1) in (
-      within-range (s .version) leastVersion mostVersion (all .0) .1,
-      (within-range (s .«offset_width») leastOffsetWidth mostOffsetWidth (two .0), within-range (s .«key_length») leastKeyLength mostKeyLength (two .1)),
+      within-range leastVersion mostVersion (s .version) (all .0) .1,
+      (within-range leastOffsetWidth mostOffsetWidth (s .«offset_width») (two .0), within-range leastKeyLength mostKeyLength (s .«key_length») (two .1)),
     )
 
 pub passed : (s : Settings) (list : List ℕ) (room : ℕ) → writeCheck s list room ≡ silent → Passed s list room
