@@ -13,8 +13,8 @@ use Rattle.md5.specs.Message.{md5}
 use Rattle.refusal.specs.Check.{silent}
 use Rattle.refusal.specs.Output.{filled}
 use Rattle.index_layout.specs.declared.Layout.{Layout}
-use Rattle.index_layout.specs.Layout.{pageSize, hashLength, entrySize, full, onPage, entryNumber, pageAt, lastKeyAt, pageHashAt, indexLength, pageOf}
-use Rattle.index_layout.proofs.Laws.{per-page, size-low, key-within, on-page-fits}
+use Rattle.index_layout.specs.Layout.{pageSize, hashLength, entrySize, full, onPage, entryNumber, lastKeyAt, pageHashAt, indexLength, pageOf}
+use Rattle.index_layout.proofs.Laws.{key-within, on-page-fits}
 use Rattle.index_open.proofs.Opened.{pages-tight}
 use Rattle.index_file.specs.File.{listAt, entriesIn, pageIn, lastKeyIn, pageHashIn, pages, lastKeys, pageHashes, hashesOf, fileOf}
 use Rattle.index_file.specs.Held.{Held}
@@ -22,22 +22,18 @@ use Rattle.index_footer.specs.Footer.{footerAt, contentsOf, footerWith}
 use Rattle.index_footer.proofs.Laws.{keys-begin, hashes-begin, footer-begins, index-ends, contents-size, first-eight-length, footer-length}
 
 module _ (list : List ℕ) (l : Layout) (h : Held list l) where
-  pub full-positive : 1 ≤ full l
-  unfolding full
-  full-positive = per-page (entrySize l) (size-low l) (h .most) .0
-
   -- the entries up to the end of a page are there
   pub some-on-page : (p : ℕ) → p < l .pages → (entryNumber l p (onPage l p) ≤ l .entries) × (1 ≤ onPage l p)
   unfolding onPage
   some-on-page p k =
-      let tight : p * full l < l .entries = pages-tight (l .entries) (full l) p full-positive (rw (h .paged) at k) in
-      (omega (arith, tight), omega (arith, tight, full-positive))
+      let tight : p * full l < l .entries = pages-tight (l .entries) (full l) p (h .holds) (rw (h .paged) at k) in
+      (omega (arith, tight), omega (arith, tight, h .holds))
 
   -- every page but the last is full
   pub page-full : (p : ℕ) → p + 1 < l .pages → onPage l p ≡ full l
   unfolding onPage
   page-full p k =
-      omega (arith, pages-tight (l .entries) (full l) (p + 1) full-positive (rw (h .paged) at k), add-mul p 1 (full l), one-mul (full l))
+      omega (arith, pages-tight (l .entries) (full l) (p + 1) (h .holds) (rw (h .paged) at k), add-mul p 1 (full l), one-mul (full l))
 
   entries-inside : (p : ℕ) → p < l .pages → listAt l p 0 + onPage l p * entrySize l ≤ length list
   entries-inside p k =

@@ -12,7 +12,7 @@ use borrow.Author.Tests.{le-ltb, eq-eqb, not-false}
 use Rattle.parts.specs.Part.{byteAt, partAt}
 use Rattle.parts.proofs.Laws.{partAt-inside, sameBytes-eq, allZero-eq, overlay-inside}
 use Rattle.parts.proofs.Parts.{part-add, parts-same, parts-of, parts-at}
-use Rattle.field.specs.Number.{littleAt, within}
+use Rattle.field.specs.Number.{littleAt}
 use Rattle.field.proofs.Laws.{within-inside}
 use Rattle.md5.specs.Message.{md5, littleBytes}
 use Rattle.key.specs.Order.{compared, isBelow}
@@ -54,7 +54,7 @@ module _ (s : List ℕ) (o : Opened s) where
 
   held-again : Held list l
   unfolding layoutFrom full entrySize
-  held-again = record { bytes = list-length s o; paged = refl; most = omega (arith, o .offset-high, o .key-high) }
+  held-again = record { bytes = list-length s o; paged = refl; holds = full-positive s o }
 
   -- the entries of a page stand in the list after those of the full pages before it
   entries-again : (p : ℕ) → p < l .pages → entriesOf s l p ≡ entriesIn list l p

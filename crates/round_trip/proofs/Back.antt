@@ -1,12 +1,12 @@
 -- A written index passes the full check, and its layout and list are those it was made from.
 use mathlib.Core.Path.{_≡_, refl, sym, ap, ap₂, subst, _∙_}
-use mathlib.Core.Bool.{true, false, not, _&&_}
+use mathlib.Core.Bool.{true, false, not}
 use mathlib.Core.List.{List, _++_, append-assoc}
 use Prim.Native.Nat.{ℕ, _+_, _-_, _*_, _≤_, _<_}
-use native.Mathlib.Nat.{zero-mul, zero-add, add-zero, add-mul, mul-assoc, mul-one, mul-le-mul-right, mul-le-mul-left}
+use native.Mathlib.Nat.{zero-mul, add-zero, add-mul, mul-assoc, mul-one, mul-le-mul-right, mul-le-mul-left}
 use native.Mathlib.Decide.{decLt}
 use native.Mathlib.Omega.{arith}
-use lib.Dec.{ltb, eqb}
+use lib.Dec.{ltb}
 use lib.ListN.{length, take, drop, replicate, length-append, length-drop, length-replicate}
 use lib.Seq.{take-at, drop-at, take-all}
 use borrow.Author.Tests.{le-ltb, eq-eqb}
@@ -31,7 +31,7 @@ use Rattle.index_footer.specs.Footer.{fields, hashedFields, footerWith}
 use Rattle.index_footer.proofs.Laws.{keys-begin, first-eight-length, footer-length}
 use Rattle.index_file.specs.File.{listAt, entriesIn, pageIn, lastKeyIn, pageHashIn, pages, lastKeys, pageHashes, fileOf}
 use Rattle.index_file.specs.Held.{Held}
-use Rattle.index_file.proofs.Parts.{full-positive, some-on-page, entries-length, last-key-length, pages-length, last-keys-length, file-length, page-there}
+use Rattle.index_file.proofs.Parts.{some-on-page, entries-length, last-key-length, pages-length, last-keys-length, file-length, page-there}
 use Rattle.writer.specs.declared.Settings.{Settings}
 use Rattle.writer.specs.Write.{listEntrySize, layoutFor, keyIn, writeCheck}
 use Rattle.writer.proofs.Passed.{Passed, passed, held}
@@ -177,7 +177,7 @@ module _ (list : List ℕ) (l : Layout) (h : Held list l) where
 
   list-within : length list ≤ l .pages * (full l * entrySize l)
   list-within =
-      let hold : l .entries ≤ l .pages * full l = subst (λ n. l .entries ≤ n * full l) (sym (h .paged)) (pages-hold (l .entries) (full l) (full-positive list l h)) in
+      let hold : l .entries ≤ l .pages * full l = subst (λ n. l .entries ≤ n * full l) (sym (h .paged)) (pages-hold (l .entries) (full l) (h .holds)) in
       omega (arith, h .bytes, mul-le-mul-right (entrySize l) hold, mul-assoc (l .pages) (full l) (entrySize l))
 
   pub list-is : entriesBy file l ≡ list
@@ -193,7 +193,7 @@ module _ (list : List ℕ) (l : Layout) (h : Held list l) where
   first-in-order : (p i : ℕ) → (0 < entryNumber l p i → ⊥) → notAbove file l p i ≡ false
   unfolding notAbove
   first-in-order p i m =
-      let page : p ≡ 0 = omega (arith, m, mul-le-mul-left p (full-positive list l h), mul-one p) in
+      let page : p ≡ 0 = omega (arith, m, mul-le-mul-left p (h .holds), mul-one p) in
       let slot : i ≡ 0 = omega (arith, m) in
       rw (eq-eqb p 0 page, eq-eqb i 0 slot)
 

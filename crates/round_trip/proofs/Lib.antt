@@ -1,3 +1,4 @@
 pub mod Paged
 pub mod Again
 pub mod Back
+pub mod Demand2

@@ -17,7 +17,7 @@ use Rattle.index_layout.specs.Entries.{entriesOf}
 use Rattle.index_layout.proofs.Laws.{key-within}
 use Rattle.index_file.specs.File.{listAt, entriesIn, lastKeyIn}
 use Rattle.index_file.specs.Held.{Held}
-use Rattle.index_file.proofs.Parts.{full-positive, some-on-page, page-full}
+use Rattle.index_file.proofs.Parts.{some-on-page, page-full}
 
 -- The key of entry g of a list.
 abbrev pub keyOf : List ℕ → Layout → ℕ → List ℕ
@@ -56,7 +56,7 @@ module _ (s list : List ℕ) (l : Layout) (e : Same s list l) where
   before-first p k =
       let back : suc p - 1 ≡ p = omega arith in
       let every : onPage l p ≡ full l = page-full list l (e .held) p (omega arith) in
-      let low = full-positive list l (e .held) in
+      let low = e .held .holds in
       let entry : p * full l + (onPage l p - 1) ≡ entryNumber l (suc p) 0 - 1 = omega (arith, every, low, suc-mul p (full l)) in
       ap (λ q. keyAt s l q (onPage l q - 1)) back ∙ key-same p (onPage l p - 1) (omega arith) (omega (arith, every, low)) ∙ ap (keyOf list l) entry
 

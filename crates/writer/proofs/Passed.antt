@@ -9,12 +9,13 @@ use lib.ListN.{length}
 use borrow.Author.Tests.{ltb-false, eqb-true, not-false}
 use Rattle.field.specs.Number.{within}
 use Rattle.key.specs.Order.{compared, isBelow}
-use Rattle.refusal.specs.Check.{silent, first}
+use Rattle.refusal.specs.Check.{silent}
 use Rattle.refusal.specs.Output.{roomCheck}
 use Rattle.refusal.specs.Number.{settings, list-length, entry-count, index-order, output-short}
 use Rattle.refusal.proofs.Laws.{silent-test, first-left, first-right, from-each}
 use Rattle.index_layout.specs.Layout as layout
 use Rattle.index_layout.specs.Layout.{leastVersion, mostVersion, leastOffsetWidth, mostOffsetWidth, leastKeyLength, mostKeyLength, mostEntries, countCheck, full, indexLength}
+use Rattle.index_layout.proofs.Laws.{per-page, size-low}
 use Rattle.field.proofs.Laws.{within-range}
 use Rattle.writer.specs.declared.Settings.{Settings}
 use Rattle.writer.specs.Write.{listEntrySize, listCount, layoutFor, settingsRight, settingsCheck, wholeCheck, keyIn, listOrderCheck, risingCheck, writeCheck}
@@ -68,4 +69,6 @@ passed s list room e =
 
 pub held : (s : Settings) (list : List ℕ) (room : ℕ) → Passed s list room → Held list (layoutFor s list)
 unfolding layoutFor layout.entrySize full listEntrySize listCount
-held s list room p = record { bytes = p .bytes; paged = refl; most = omega (arith, p .key-high, p .offset-high) }
+held s list room p =
+    let size : layout.entrySize (layoutFor s list) ≤ 514 = omega (arith, p .key-high, p .offset-high) in
+    record { bytes = p .bytes; paged = refl; holds = per-page (layout.entrySize (layoutFor s list)) (size-low (layoutFor s list)) size .0 }

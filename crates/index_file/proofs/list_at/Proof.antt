@@ -1,6 +1,6 @@
 -- `index_file::list_at`: entries before it times the bytes of each.
-use mathlib.Core.Path.{ap₂, _∙_}
-use Prim.Native.Nat.{_+_, _*_}
+use mathlib.Core.Path.{ap₂}
+use Prim.Native.Nat.{_*_}
 use native.Mathlib.Omega.{arith}
 use Rattle.index_layout.specs.Layout.{full}
 use Rattle.index_layout.proofs.Laws.{bound, full-most}

@@ -7,7 +7,7 @@ use lib.ListN.{length}
 use Rattle.parts.specs.Part.{partAt, partsFrom, overlay}
 use Rattle.parts.proofs.Laws.{overlay-none, overlay-length, partAt-length}
 use Rattle.parts.proofs.Parts.{part-laid}
-use Rattle.index_layout.specs.Layout.{pageAt, lastKeyAt}
+use Rattle.index_layout.specs.Layout.{pageAt}
 use Rattle.index_file.specs.File.{listAt, lastKeyIn, lastKeys}
 use Rattle.index_footer.proofs.Laws.{keys-begin}
 use borrow.Author.Needs.{needs}

@@ -3,7 +3,7 @@ use mathlib.Core.Path.{_≡_, sym, ap, ap₂, _∙_}
 use Prim.Native.Nat.{_+_, _-_, _*_, _≤_}
 use native.Mathlib.Omega.{arith}
 use lib.ListN.{length}
-use Rattle.parts.specs.Part.{partsFrom, overlay}
+use Rattle.parts.specs.Part.{partsFrom}
 use Rattle.parts.proofs.Laws.{overlay-none, overlay-length}
 use Rattle.index_layout.specs.Layout.{hashLength, pageAt}
 use Rattle.index_layout.proofs.Laws.{bound}

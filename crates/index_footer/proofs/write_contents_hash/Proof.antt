@@ -1,5 +1,5 @@
 -- `index_footer::write_contents_hash`: few enough bytes to be hashed.
-use mathlib.Core.Path.{_≡_, ap, ap₂, _∙_}
+use mathlib.Core.Path.{ap, ap₂, _∙_}
 use Prim.Native.Nat.{_-_, _≤_, _^_}
 use native.Mathlib.Omega.{arith}
 use lib.ListN.{length, take}
