@@ -34,10 +34,10 @@ pub fn write_pages(list: &[u8], l: Layout, output: &mut [u8])
     ensures { λ _. ⌜ now (output .exit) ≡ overlay (now (output .entry)) 0 (spec.pages (now (list .entry)) l) ⌝ }
 {
     let zeros = [0u8; PAGE_SIZE];
-    let pages = l.pages;
+    let count = l.pages;
     let mut to = 0;
     let mut p = 0;
-    while p < pages {
+    while p < count {
         let bytes = entries_size(l, Page(p));
         let entries = part(list, list_at(l, Page(p), Slot(0)), bytes);
         copy(entries, output, to);
