@@ -105,12 +105,6 @@ module _ (s : List ℕ) (o : Opened s) where
   unfolding onPage
   on-page-some p h = omega (arith, full-positive, pages-tight (layoutOf s .entries) (full (layoutOf s)) p full-positive (rw pages-are at h))
 
-  -- every page but the last is full
-  pub on-page-full : (p : ℕ) → p + 1 < layoutOf s .pages → onPage (layoutOf s) p ≡ full (layoutOf s)
-  unfolding onPage
-  on-page-full p h =
-      omega (arith, pages-tight (layoutOf s .entries) (full (layoutOf s)) (p + 1) full-positive (rw pages-are at h), add-mul p 1 (full (layoutOf s)), one-mul (full (layoutOf s)))
-
   pub pages-inside : pageAt (layoutOf s .pages) ≤ length s
   unfolding indexLength
   pages-inside =

@@ -1,4 +1,4 @@
 pub mod Paged
-pub mod Back
 pub mod Again
+pub mod Back
 pub mod Demand2

@@ -12,9 +12,9 @@ use Rattle.refusal.specs.Number.{settings, list-length, entry-count, index-orde
 use Rattle.refusal.proofs.Laws.{said, quiet, first-said, skip}
 use Rattle.rising.specs.Fall.{risesAt, fallFrom}
 use Rattle.rising.proofs.Laws.{fall-check, fall-low}
-use Rattle.index_layout.specs.Layout.{indexLength}
+use Rattle.index_layout.specs.Layout.{mostEntries, countCheck, indexLength}
 use Rattle.writer.specs.declared.Settings.{Settings}
-use Rattle.writer.specs.Write.{entrySize, entryCount, layoutFor, settingsRight, settingsCheck, wholeCheck, countCheck, keyIn, orderCheck, risingCheck, writeCheck}
+use Rattle.writer.specs.Write.{listEntrySize, listCount, layoutFor, settingsRight, settingsCheck, wholeCheck, keyIn, listOrderCheck, risingCheck, writeCheck}
 
 module _ (s : Settings) (list : List ℕ) (room : ℕ) where
   pub judged-11 : settingsRight s ≡ false → writeCheck s list room ≡ refused settings 0
@@ -22,38 +22,38 @@ module _ (s : Settings) (list : List ℕ) (room : ℕ) where
   judged-11 e = first-said _ (said refl (ap not e))
 
   module _ (right : settingsRight s ≡ true) where
-    pub judged-12 : (length list % entrySize s ≡ 0 → ⊥) → writeCheck s list room ≡ refused list-length 0
+    pub judged-12 : (length list % listEntrySize s ≡ 0 → ⊥) → writeCheck s list room ≡ refused list-length 0
     unfolding writeCheck
     judged-12 h = skip (quiet settings 0 refl (ap not right)) (first-said _ (said refl (ap not (ne-eqb _ 0 h))))
 
-    module _ (whole : length list % entrySize s ≡ 0) where
-      pub judged-4 : 8388608 < entryCount s list → writeCheck s list room ≡ refused entry-count 0
+    module _ (whole : length list % listEntrySize s ≡ 0) where
+      pub judged-4 : mostEntries < listCount s list → writeCheck s list room ≡ refused entry-count 0
       unfolding writeCheck
       judged-4 h =
           skip (quiet settings 0 refl (ap not right)) (skip (quiet list-length 0 refl (ap not (eq-eqb _ 0 whole)))
-          (first-said _ (said refl (lt-ltb 8388608 (entryCount s list) h))))
+          (first-said _ (said refl (lt-ltb mostEntries (listCount s list) h))))
 
-      module _ (few : entryCount s list ≤ 8388608) (fall : ℕ) (f : fall ≡ fallFrom list (entrySize s) (s .key) 1 (entryCount s list - 1)) where
-        rising-told : risingCheck s list ≡ refusedIf (ltb fall (1 + (entryCount s list - 1))) index-order fall
-        unfolding orderCheck keyIn risesAt
+      module _ (few : listCount s list ≤ mostEntries) (fall : ℕ) (f : fall ≡ fallFrom list (listEntrySize s) (s .«key_length») 1 (listCount s list - 1)) where
+        rising-told : risingCheck s list ≡ refusedIf (ltb fall (1 + (listCount s list - 1))) index-order fall
+        unfolding listOrderCheck keyIn risesAt
         rising-told =
-            fall-check list (entrySize s) (s .key) (orderCheck s list) index-order (λ i. i) 1 (entryCount s list - 1) (λ j a b. refl)
-            ∙ ap (λ n. refusedIf (ltb n (1 + (entryCount s list - 1))) index-order n) (sym f)
+            fall-check list (listEntrySize s) (s .«key_length») (listOrderCheck s list) index-order (λ i. i) 1 (listCount s list - 1) (λ j a b. refl)
+            ∙ ap (λ n. refusedIf (ltb n (1 + (listCount s list - 1))) index-order n) (sym f)
 
-        three : (later : Check) {r : Check} → later ≡ r → first (settingsCheck s) (first (wholeCheck s list) (first (countCheck s list) later)) ≡ r
+        three : (later : Check) {r : Check} → later ≡ r → first (settingsCheck s) (first (wholeCheck s list) (first (countCheck (listCount s list)) later)) ≡ r
         three later e =
             skip (quiet settings 0 refl (ap not right)) (skip (quiet list-length 0 refl (ap not (eq-eqb _ 0 whole)))
-            (skip (quiet entry-count 0 refl (le-ltb 8388608 (entryCount s list) few)) e))
+            (skip (quiet entry-count 0 refl (le-ltb mostEntries (listCount s list) few)) e))
 
-        pub judged-8 : fall < entryCount s list → writeCheck s list room ≡ refused index-order fall
+        pub judged-8 : fall < listCount s list → writeCheck s list room ≡ refused index-order fall
         unfolding writeCheck
-        judged-8 h = three _ (first-said _ (said rising-told (lt-ltb fall (1 + (entryCount s list - 1)) (omega arith))))
+        judged-8 h = three _ (first-said _ (said rising-told (lt-ltb fall (1 + (listCount s list - 1)) (omega arith))))
 
-        module _ (rises : entryCount s list ≤ fall) where
+        module _ (rises : listCount s list ≤ fall) where
           rising-quiet : risingCheck s list ≡ silent
           rising-quiet =
-              let low = fall-low list (entrySize s) (s .key) 1 (entryCount s list - 1) in
-              quiet index-order fall rising-told (le-ltb fall (1 + (entryCount s list - 1)) (omega (arith, low, f)))
+              let low = fall-low list (listEntrySize s) (s .«key_length») 1 (listCount s list - 1) in
+              quiet index-order fall rising-told (le-ltb fall (1 + (listCount s list - 1)) (omega (arith, low, f)))
 
           pub judged-13 : room < indexLength (layoutFor s list) → writeCheck s list room ≡ refused output-short 0
           unfolding writeCheck

@@ -1,4 +1,2 @@
 pub mod Laws
-pub mod Filled
-pub mod Parts
 pub mod Passed

@@ -1,5 +1,9 @@
 // Writing an archive index from its settings and its list.
 use field::within;
+use index_file::write_last_keys;
+use index_file::write_page_hashes;
+use index_file::write_pages;
+use index_footer::write_footer;
 use index_layout::LEAST_KEY_LENGTH;
 use index_layout::LEAST_OFFSET_WIDTH;
 use index_layout::LEAST_VERSION;
@@ -16,14 +20,16 @@ use refusal::OUTPUT_SHORT;
 use refusal::Refusal;
 use refusal::SETTINGS;
 ghost use mathlib.Core.Path.{_≡_};
+ghost use Prim.Native.Nat.{_≤_};
 ghost use lib.ListN.{length};
+ghost use Rattle.refusal.specs.Check.{silent};
 ghost use Rattle.refusal.specs.Outcome.{answered, refusal, after};
 ghost use Rattle.refusal.specs.Output.{filled};
+ghost use Rattle.index_layout.specs.Layout.{indexLength};
 ghost use Rattle.index_open.specs.Open as check;
-ghost use Rattle.writer.specs.File.{fileOf};
+ghost use Rattle.index_file.specs.File.{fileOf};
+ghost use Rattle.index_file.specs.Held.{Held};
 ghost use Rattle.writer.specs.Write as spec;
-
-mod file;
 
 // What an index is written with, beside its list: version, offset width and key length.
 pub struct Settings {
@@ -47,21 +53,16 @@ fn refuse(number: u32, place: usize) -> Checked
 fn settings_right(settings: Settings) -> bool
     ensures { λ r. ⌜ r ≡ spec.settingsRight settings ⌝ }
 {
-    within(
-        settings.version as u32,
-        LEAST_VERSION as u32,
-        MOST_VERSION as u32,
-    )
-        && within(
-            settings.offset_width as u32,
-            LEAST_OFFSET_WIDTH as u32,
-            MOST_OFFSET_WIDTH as u32,
-        )
-        && within(
-            settings.key_length as u32,
-            LEAST_KEY_LENGTH as u32,
-            MOST_KEY_LENGTH as u32,
-        )
+    let version = settings.version as u32;
+    if !within(version, LEAST_VERSION as u32, MOST_VERSION as u32) {
+        return false;
+    }
+    let width = settings.offset_width as u32;
+    if !within(width, LEAST_OFFSET_WIDTH as u32, MOST_OFFSET_WIDTH as u32) {
+        return false;
+    }
+    let key = settings.key_length as u32;
+    within(key, LEAST_KEY_LENGTH as u32, MOST_KEY_LENGTH as u32)
 }
 
 // Refusals 11, 12, 4, 8 and 13, and the layout of the file.
@@ -94,6 +95,18 @@ fn judge(settings: Settings, list: &[u8], room: usize) -> Checked
     Checked::Passed(l)
 }
 
+// The whole file, part by part.
+fn write_file(list: &[u8], l: Layout, output: &mut [u8])
+    requires { ⌜ Held (now list) l ⌝ }
+    requires { ⌜ indexLength l ≤ length (now output) ⌝ }
+    ensures { λ _. ⌜ now (output .exit) ≡ filled silent (fileOf (now (list .entry)) l) (now (output .entry)) ⌝ }
+{
+    write_pages(list, l, output);
+    write_last_keys(list, l, output);
+    write_page_hashes(l, output);
+    write_footer(l, output);
+}
+
 // Writes the index of a list into the output.
 pub fn write(settings: Settings, list: &[u8], output: &mut [u8]) -> Written
     ensures { λ r. ⌜ spec.outcome r ≡ spec.writeOutcome settings (now (list .entry)) (length (now (output .entry))) ⌝ }
@@ -102,7 +115,7 @@ pub fn write(settings: Settings, list: &[u8], output: &mut [u8]) -> Written
     match judge(settings, list, output.len()) {
         Checked::Refused(r) => Written::Refused(r),
         Checked::Passed(l) => {
-            file::write_file(list, l, output);
+            write_file(list, l, output);
             Written::File(l.length())
         }
     }

@@ -6,7 +6,7 @@ use Rattle.refusal.proofs.Laws.{after-said, after-quiet}
 use Rattle.index_open.specs.Open.{layoutValues, outcome}
 use Rattle.index_layout.specs.Layout as layout
 use Rattle.index_layout.specs.Layout.{indexLength}
-use Rattle.writer.specs.Write.{entrySize, entryCount, layoutFor}
+use Rattle.writer.specs.Write.{listEntrySize, listCount, layoutFor}
 use Rattle.writer.proofs.Laws.{judged-11, judged-12, judged-4, judged-8, judged-13, judged-none}
 use borrow.Author.Needs.{needs}
 use Rattle.writer.proofs.judge.Statement.{statement}
@@ -38,12 +38,12 @@ refuse-requires-2 : tie.Need-refuse-requires-2
 refuse-requires-2 c κs = search needs
 
 returns-2 : tie.Need-returns-2
-unfolding entrySize
+unfolding listEntrySize
 returns-2 c =
     let a = c .before .before .before .before .before .before .before .args in
     let s = a .settings in
     let t = a .list .now in
-    let size : c .before .before .entry-size .result ≡ entrySize s = c .before .before .entry-size .ensures .0 ∙ ap layout.entrySize (c .before .before .before .new .ensures) in
+    let size : c .before .before .entry-size .result ≡ listEntrySize s = c .before .before .entry-size .ensures .0 ∙ ap layout.entrySize (c .before .before .before .new .ensures) in
     c .refuse2 .ensures ∙ sym (after-said _ (judged-12 s t (a .room) (sym (c .before .before .before .before .before .settings-right .ensures) ∙ not-false _ (c .before .before .before .before .if1 .left)) (rw size at (c .before .if2 .taken))))
 
 div-entries : tie.Need-div-entries
@@ -53,12 +53,12 @@ refuse-requires-3 : tie.Need-refuse-requires-3
 refuse-requires-3 c κs = search needs
 
 returns-3 : tie.Need-returns-3
-unfolding entrySize entryCount
+unfolding listEntrySize listCount
 returns-3 c =
     let a = c .before .before .before .before .before .before .before .before .args in
     let s = a .settings in
     let t = a .list .now in
-    let size : c .before .before .before .entry-size .result ≡ entrySize s = c .before .before .before .entry-size .ensures .0 ∙ ap layout.entrySize (c .before .before .before .before .new .ensures) in
+    let size : c .before .before .before .entry-size .result ≡ listEntrySize s = c .before .before .before .entry-size .ensures .0 ∙ ap layout.entrySize (c .before .before .before .before .new .ensures) in
     c .refuse3 .ensures ∙ sym (after-said _ (judged-4 s t (a .room) (sym (c .before .before .before .before .before .before .settings-right .ensures) ∙ not-false _ (c .before .before .before .before .before .if1 .left)) (rw size at (c .before .before .if2 .left)) (rw size at (c .before .if3 .taken))))
 
 cast-count : tie.Need-cast-count
@@ -77,12 +77,12 @@ refuse-requires-4 : tie.Need-refuse-requires-4
 refuse-requires-4 c κs = search needs
 
 returns-4 : tie.Need-returns-4
-unfolding entrySize entryCount
+unfolding listEntrySize listCount
 returns-4 c =
     let a = c .before .before .before .before .before .before .before .before .before .before .args in
     let s = a .settings in
     let t = a .list .now in
-    let size : c .before .before .before .before .before .entry-size .result ≡ entrySize s = c .before .before .before .before .before .entry-size .ensures .0 ∙ ap layout.entrySize (c .before .before .before .before .before .before .new .ensures) in
+    let size : c .before .before .before .before .before .entry-size .result ≡ listEntrySize s = c .before .before .before .before .before .entry-size .ensures .0 ∙ ap layout.entrySize (c .before .before .before .before .before .before .new .ensures) in
     c .refuse4 .ensures ∙ sym (after-said _ (judged-8 s t (a .room) (sym (c .before .before .before .before .before .before .before .before .settings-right .ensures) ∙ not-false _ (c .before .before .before .before .before .before .before .if1 .left)) (rw size at (c .before .before .before .before .if2 .left)) (rw size at (c .before .before .before .if3 .left)) (c .before .before .fall .result) (rw size at (c .before .before .fall .ensures)) (rw size at (c .before .if4 .taken))))
 
 new-requires-2 : tie.Need-new-requires-2
@@ -95,22 +95,22 @@ refuse-requires-5 : tie.Need-refuse-requires-5
 refuse-requires-5 c κs = search needs
 
 returns-5 : tie.Need-returns-5
-unfolding entrySize entryCount layoutFor
+unfolding listEntrySize listCount layoutFor
 returns-5 c =
     let a = c .before .before .before .before .before .before .before .before .before .before .before .before .before .args in
     let s = a .settings in
     let t = a .list .now in
-    let size : c .before .before .before .before .before .before .before .before .entry-size .result ≡ entrySize s = c .before .before .before .before .before .before .before .before .entry-size .ensures .0 ∙ ap layout.entrySize (c .before .before .before .before .before .before .before .before .before .new .ensures) in
+    let size : c .before .before .before .before .before .before .before .before .entry-size .result ≡ listEntrySize s = c .before .before .before .before .before .before .before .before .entry-size .ensures .0 ∙ ap layout.entrySize (c .before .before .before .before .before .before .before .before .before .new .ensures) in
     let room = c .before .before .length .ensures ∙ ap indexLength (rw size at (c .before .before .before .new2 .ensures)) in
     c .refuse5 .ensures ∙ sym (after-said _ (judged-13 s t (a .room) (sym (c .before .before .before .before .before .before .before .before .before .before .before .settings-right .ensures) ∙ not-false _ (c .before .before .before .before .before .before .before .before .before .before .if1 .left)) (rw size at (c .before .before .before .before .before .before .before .if2 .left)) (rw size at (c .before .before .before .before .before .before .if3 .left)) (c .before .before .before .before .before .fall .result) (rw size at (c .before .before .before .before .before .fall .ensures)) (rw size at (c .before .before .before .before .if4 .left)) (rw room at (c .before .if5 .taken))))
 
 returns-6 : tie.Need-returns-6
-unfolding entrySize entryCount layoutFor outcome
+unfolding listEntrySize listCount layoutFor outcome
 returns-6 c =
     let a = c .before .before .before .before .before .before .before .before .before .before .before .before .args in
     let s = a .settings in
     let t = a .list .now in
-    let size : c .before .before .before .before .before .before .before .entry-size .result ≡ entrySize s = c .before .before .before .before .before .before .before .entry-size .ensures .0 ∙ ap layout.entrySize (c .before .before .before .before .before .before .before .before .new .ensures) in
+    let size : c .before .before .before .before .before .before .before .entry-size .result ≡ listEntrySize s = c .before .before .before .before .before .before .before .entry-size .ensures .0 ∙ ap layout.entrySize (c .before .before .before .before .before .before .before .before .new .ensures) in
     let made = rw size at (c .before .before .new2 .ensures) in
     let room = c .before .length .ensures ∙ ap indexLength made in
     ap (λ l. answered (layoutValues l)) made ∙ sym (after-quiet _ (judged-none s t (a .room) (sym (c .before .before .before .before .before .before .before .before .before .before .settings-right .ensures) ∙ not-false _ (c .before .before .before .before .before .before .before .before .before .if1 .left)) (rw size at (c .before .before .before .before .before .before .if2 .left)) (rw size at (c .before .before .before .before .before .if3 .left)) (c .before .before .before .before .fall .result) (rw size at (c .before .before .before .before .fall .ensures)) (rw size at (c .before .before .before .if4 .left)) (rw room at (c .if5 .left))))

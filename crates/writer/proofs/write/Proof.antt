@@ -9,9 +9,9 @@ use Rattle.refusal.specs.Output.{filled}
 use Rattle.refusal.proofs.Laws.{after-said, after-quiet}
 use Rattle.index_layout.specs.Layout.{indexLength}
 use Rattle.index_open.proofs.Laws.{passed-index, refused-index}
-use Rattle.writer.specs.File.{fileOf}
+use Rattle.index_file.specs.File.{fileOf}
 use Rattle.writer.specs.Write.{layoutFor, writeCheck, outcome}
-use Rattle.writer.specs.Stored.{Held}
+use Rattle.index_file.specs.Held.{Held}
 use Rattle.writer.proofs.Passed.{passed, held}
 use borrow.Author.Needs.{needs}
 use Rattle.writer.proofs.write.Statement.{statement}

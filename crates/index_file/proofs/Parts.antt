@@ -1,0 +1,148 @@
+-- The lengths of the parts of a written file, and where each part stands in it.
+use mathlib.Core.Path.{_≡_, sym, ap, ap₂, _∙_}
+use mathlib.Core.List.{List, _++_, append-assoc}
+use Prim.Native.Nat.{ℕ, _+_, _-_, _*_, _≤_, _<_}
+use native.Mathlib.Nat.{zero-add, add-zero, add-mul, mul-add, mul-le-mul-right, one-mul}
+use native.Mathlib.Omega.{arith}
+use lib.ListN.{length, take, drop, replicate, length-append, length-replicate}
+use lib.Seq.{take-at}
+use Rattle.parts.specs.Part.{partAt, overlay}
+use Rattle.parts.proofs.Laws.{partAt-inside, overlay-after, overlay-inside}
+use Rattle.parts.proofs.Parts.{part-after, parts-same, parts-length, parts-part}
+use Rattle.md5.specs.Message.{md5}
+use Rattle.refusal.specs.Check.{silent}
+use Rattle.refusal.specs.Output.{filled}
+use Rattle.index_layout.specs.declared.Layout.{Layout}
+use Rattle.index_layout.specs.Layout.{pageSize, hashLength, entrySize, full, onPage, entryNumber, lastKeyAt, pageHashAt, indexLength, pageOf}
+use Rattle.index_layout.proofs.Laws.{key-within, on-page-fits}
+use Rattle.index_open.proofs.Opened.{pages-tight}
+use Rattle.index_file.specs.File.{listAt, entriesIn, pageIn, lastKeyIn, pageHashIn, pages, lastKeys, pageHashes, hashesOf, fileOf}
+use Rattle.index_file.specs.Held.{Held}
+use Rattle.index_footer.specs.Footer.{footerAt, contentsOf, footerWith}
+use Rattle.index_footer.proofs.Laws.{keys-begin, hashes-begin, footer-begins, index-ends, contents-size, first-eight-length, footer-length}
+
+module _ (list : List ℕ) (l : Layout) (h : Held list l) where
+  -- the entries up to the end of a page are there
+  pub some-on-page : (p : ℕ) → p < l .pages → (entryNumber l p (onPage l p) ≤ l .entries) × (1 ≤ onPage l p)
+  unfolding onPage
+  some-on-page p k =
+      let tight : p * full l < l .entries = pages-tight (l .entries) (full l) p (h .holds) (rw (h .paged) at k) in
+      (omega (arith, tight), omega (arith, tight, h .holds))
+
+  -- every page but the last is full
+  pub page-full : (p : ℕ) → p + 1 < l .pages → onPage l p ≡ full l
+  unfolding onPage
+  page-full p k =
+      omega (arith, pages-tight (l .entries) (full l) (p + 1) (h .holds) (rw (h .paged) at k), add-mul p 1 (full l), one-mul (full l))
+
+  entries-inside : (p : ℕ) → p < l .pages → listAt l p 0 + onPage l p * entrySize l ≤ length list
+  entries-inside p k =
+      omega (arith, h .bytes, mul-le-mul-right (entrySize l) (some-on-page p k .0), add-mul (p * full l) (onPage l p) (entrySize l), ap (λ n. n * entrySize l) (add-zero (p * full l)))
+
+  pub entries-length : (p : ℕ) → p < l .pages → length (entriesIn list l p) ≡ onPage l p * entrySize l
+  entries-length p k = partAt-inside list (listAt l p 0) (onPage l p * entrySize l) (entries-inside p k)
+
+  pub page-length : (p : ℕ) → p < l .pages → length (pageIn list l p) ≡ pageSize
+  unfolding pageIn
+  page-length p k =
+      length-append (entriesIn list l p) (replicate (pageSize - onPage l p * entrySize l) 0)
+      ∙ ap₂ _+_ (entries-length p k) (length-replicate (pageSize - onPage l p * entrySize l) 0) ∙ omega (arith, on-page-fits l p)
+
+  last-inside : (p : ℕ) → p < l .pages → listAt l p (onPage l p - 1) + l .«key_length» ≤ length list
+  last-inside p k =
+      let some = some-on-page p k in
+      let one : entryNumber l p (onPage l p - 1) + 1 ≤ l .entries = omega (arith, some .0, some .1) in
+      omega (arith, h .bytes, key-within l, mul-le-mul-right (entrySize l) one, add-mul (entryNumber l p (onPage l p - 1)) 1 (entrySize l), one-mul (entrySize l))
+
+  pub last-key-length : (p : ℕ) → p < l .pages → length (lastKeyIn list l p) ≡ l .«key_length»
+  unfolding lastKeyIn
+  last-key-length p k = partAt-inside list (listAt l p (onPage l p - 1)) (l .«key_length») (last-inside p k)
+
+  pub pages-length : length (pages list l) ≡ lastKeyAt l 0
+  unfolding pages
+  pages-length = parts-length (pageIn list l) pageSize 0 (l .pages) (λ j a b. page-length j (omega arith)) ∙ sym (keys-begin l)
+
+  pub last-keys-length : length (lastKeys list l) ≡ l .pages * l .«key_length»
+  unfolding lastKeys
+  last-keys-length = parts-length (lastKeyIn list l) (l .«key_length») 0 (l .pages) (λ j a b. last-key-length j (omega arith))
+
+  pub hashes-length : length (pageHashes list l) ≡ l .pages * hashLength
+  unfolding pageHashes pageHashIn
+  hashes-length = parts-length (pageHashIn list l) hashLength 0 (l .pages) (λ j a b. first-eight-length (pageIn list l j))
+
+  pub contents-length : length (lastKeys list l ++ pageHashes list l) ≡ footerAt l - lastKeyAt l 0
+  contents-length =
+      length-append (lastKeys list l) (pageHashes list l) ∙ ap₂ _+_ last-keys-length hashes-length ∙ sym (mul-add (l .pages) (l .«key_length») hashLength) ∙ sym (contents-size l)
+
+  -- the pages and the last keys, and the page hashes after them
+  abbrev two : List ℕ
+  two = pages list l ++ lastKeys list l
+
+  two-length : length two ≡ pageHashAt l 0
+  two-length = length-append (pages list l) (lastKeys list l) ∙ ap₂ _+_ (pages-length ∙ keys-begin l) last-keys-length ∙ sym (hashes-begin l)
+
+  abbrev three : List ℕ
+  three = pages list l ++ lastKeys list l ++ pageHashes list l
+
+  three-length : length three ≡ footerAt l
+  three-length =
+      length-append two (pageHashes list l) ∙ ap₂ _+_ two-length hashes-length
+      ∙ omega (arith, hashes-begin l, keys-begin l, footer-begins l, mul-add (l .pages) (l .«key_length») hashLength)
+
+  pub file-length : length (fileOf list l) ≡ indexLength l
+  unfolding fileOf
+  file-length =
+      length-append three (footerWith l (lastKeys list l ++ pageHashes list l))
+      ∙ ap₂ _+_ three-length (footer-length l (lastKeys list l ++ pageHashes list l)) ∙ sym (index-ends l)
+
+  -- what stands where, whatever follows
+  pub page-there : (rest : List ℕ) (p : ℕ) → p < l .pages → pageOf (pages list l ++ rest) p ≡ pageIn list l p
+  unfolding pages
+  page-there rest p k = parts-part (pageIn list l) pageSize (l .pages) rest page-length p k
+
+  contents-there : (rest : List ℕ) → contentsOf (three ++ rest) l ≡ lastKeys list l ++ pageHashes list l
+  contents-there rest =
+      ap (λ s. contentsOf s l) (ap (λ s. s ++ rest) (append-assoc (pages list l) (lastKeys list l) (pageHashes list l)) ∙ append-assoc (pages list l) (lastKeys list l ++ pageHashes list l) rest)
+      ∙ ap (λ n. partAt (pages list l ++ ((lastKeys list l ++ pageHashes list l) ++ rest)) n (footerAt l - lastKeyAt l 0)) (sym (add-zero (lastKeyAt l 0)))
+      ∙ part-after (pages list l) ((lastKeys list l ++ pageHashes list l) ++ rest) 0 (lastKeyAt l 0) (footerAt l - lastKeyAt l 0) pages-length
+      ∙ take-at (lastKeys list l ++ pageHashes list l) rest (footerAt l - lastKeyAt l 0) contents-length
+
+  -- the output after each step of the writer
+  module _ (out o1 o2 o3 : List ℕ) (room : indexLength l ≤ length out) (e : o1 ≡ overlay out 0 (pages list l))
+      (f : o2 ≡ overlay o1 (lastKeyAt l 0) (lastKeys list l)) (g : o3 ≡ overlay o2 (pageHashAt l 0) (hashesOf o2 l)) where
+    -- bytes laid over the start of the output stand before what is left of it
+    laid : (s : List ℕ) → length s ≤ length out → overlay out 0 s ≡ s ++ drop (length s) out
+    laid s k = overlay-inside out 0 s (omega arith) ∙ ap (λ n. s ++ drop n out) (zero-add (length s))
+
+    -- what is laid after bytes that lie over the start
+    next : (o a b : List ℕ) (n : ℕ) → o ≡ overlay out 0 a → length a ≡ n → overlay o n b ≡ overlay out 0 (a ++ b)
+    next o a b n p q = ap₂ (λ s m. overlay s m b) p (sym q ∙ sym (zero-add (length a))) ∙ overlay-after out 0 a b
+
+    three-room : length three ≤ length out
+    three-room = omega (arith, three-length, room, index-ends l)
+
+    two-room : length two ≤ length out
+    two-room = omega (arith, three-room, length-append two (pageHashes list l))
+
+    after-two : o2 ≡ overlay out 0 two
+    after-two = f ∙ next o1 (pages list l) (lastKeys list l) (lastKeyAt l 0) e pages-length
+
+    hashes-are : hashesOf o2 l ≡ pageHashes list l
+    unfolding hashesOf pageHashes pageHashIn
+    hashes-are =
+        parts-same _ _ 0 (l .pages)
+        (λ p a b. ap (λ m. take hashLength (md5 m))
+        (ap (λ o. pageOf o p) (after-two ∙ laid two two-room ∙ append-assoc (pages list l) (lastKeys list l) (drop (length two) out)) ∙ page-there (lastKeys list l ++ drop (length two) out) p (omega arith)))
+
+    after-three : o3 ≡ overlay out 0 three
+    after-three = g ∙ ap (overlay o2 (pageHashAt l 0)) hashes-are ∙ next o2 two (pageHashes list l) (pageHashAt l 0) after-two two-length
+
+    contents-are : contentsOf o3 l ≡ lastKeys list l ++ pageHashes list l
+    contents-are = ap (λ o. contentsOf o l) (after-three ∙ laid three three-room) ∙ contents-there (drop (length three) out)
+
+    pub file-laid : overlay o3 (footerAt l) (footerWith l (contentsOf o3 l)) ≡ filled silent (fileOf list l) out
+    unfolding filled fileOf
+    file-laid =
+        ap (λ s. overlay o3 (footerAt l) (footerWith l s)) contents-are
+        ∙ next o3 three (footerWith l (lastKeys list l ++ pageHashes list l)) (footerAt l) after-three three-length
+        ∙ laid (fileOf list l) (omega (arith, file-length, room))

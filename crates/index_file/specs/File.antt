@@ -1,0 +1,48 @@
+-- The bytes of an index that is written from a list of entries: document 01, "Archive index".
+use mathlib.Core.List.{List, _++_}
+use Prim.Native.Nat.{ℕ, _-_, _*_}
+use lib.ListN.{take, replicate}
+use Rattle.parts.specs.Part.{partAt, partsFrom}
+use Rattle.md5.specs.Message.{md5}
+use Rattle.index_layout.specs.declared.Layout.{Layout}
+use Rattle.index_layout.specs.Layout.{pageSize, hashLength, entrySize, onPage, entryNumber, pageOf}
+use Rattle.index_footer.specs.Footer.{footerWith}
+
+-- Where slot i of page p stands in the list, which has nothing between its entries.
+abbrev pub listAt : Layout → ℕ → ℕ → ℕ
+listAt l p i = entryNumber l p i * entrySize l
+
+-- The entries of page p.
+abbrev pub entriesIn : List ℕ → Layout → ℕ → List ℕ
+entriesIn list l p = partAt list (listAt l p 0) (onPage l p * entrySize l)
+
+-- A page: its entries, and zeros after them.
+unfoldable pub pageIn : List ℕ → Layout → ℕ → List ℕ
+pageIn list l p = entriesIn list l p ++ replicate (pageSize - onPage l p * entrySize l) 0
+
+-- The key of the last entry on page p.
+unfoldable pub lastKeyIn : List ℕ → Layout → ℕ → List ℕ
+lastKeyIn list l p = partAt list (listAt l p (onPage l p - 1)) (l .«key_length»)
+
+-- The first eight bytes of a page's hash.
+unfoldable pub pageHashIn : List ℕ → Layout → ℕ → List ℕ
+pageHashIn list l p = take hashLength (md5 (pageIn list l p))
+
+-- All pages; the last key of each; the hash of each.
+unfoldable pub pages : List ℕ → Layout → List ℕ
+pages list l = partsFrom (pageIn list l) 0 (l .pages)
+
+unfoldable pub lastKeys : List ℕ → Layout → List ℕ
+lastKeys list l = partsFrom (lastKeyIn list l) 0 (l .pages)
+
+unfoldable pub pageHashes : List ℕ → Layout → List ℕ
+pageHashes list l = partsFrom (pageHashIn list l) 0 (l .pages)
+
+-- The hashes of the pages that bytes begin with.
+unfoldable pub hashesOf : List ℕ → Layout → List ℕ
+hashesOf s l = partsFrom (λ p. take hashLength (md5 (pageOf s p))) 0 (l .pages)
+
+-- The whole file.
+unfoldable pub fileOf : List ℕ → Layout → List ℕ
+fileOf list l =
+    pages list l ++ lastKeys list l ++ pageHashes list l ++ footerWith l (lastKeys list l ++ pageHashes list l)
