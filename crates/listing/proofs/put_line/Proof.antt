@@ -1,10 +1,9 @@
--- `listing::put_line`: key, size and location of an entry, one text after the other.
+-- `listing::put_line`: key, size and location of an entry are read.
 use native.Mathlib.Omega.{arith}
 use borrow.Author.Needs.{needs}
 use Rattle.lookup.proofs.Laws.{entry-fits}
-use Rattle.listing.specs.Text.{ascii}
-use Rattle.listing.proofs.PutLaws.{put-next, put-same}
-use Rattle.listing.proofs.Lines.{line-is, line-ends}
+use Rattle.text.proofs.PutLaws.{put-same}
+use Rattle.listing.proofs.Lines.{line-is}
 use Rattle.listing.proofs.put_line.Statement.{statement}
 use Rattle.listing.proofs.put_line.Tie as tie
 
@@ -41,42 +40,17 @@ big-requires-2 c κs = search needs
 part-requires : tie.Need-part-requires
 part-requires c κs = search needs
 
-put-hex-requires : tie.Need-put-hex-requires
-put-hex-requires c κs =
-    let start = c .before .before .before .before .before .before .before .before .before in
-    omega (arith, start .pre .1, line-ends (start .args .index .now) (start .args .l) (start .args .page .0) (start .args .slot .0) _ (c .before .before .before .before .before .entry-at .ensures) (start .pre .0) _ _ _ (c .before .part .ensures) (c .before .before .before .before .big .ensures) (c .before .before .big2 .ensures))
-
-slice-aggregate-put-number : tie.Need-slice-aggregate-put-number
-slice-aggregate-put-number c = search needs
-
-put-number-requires : tie.Need-put-number-requires
-put-number-requires c κs =
-    let start = c .before .before .before .before .before .before .before .before .before .before .before .before .before .before in
-    omega (arith, start .pre .1, line-ends (start .args .index .now) (start .args .l) (start .args .page .0) (start .args .slot .0) _ (c .before .before .before .before .before .before .before .before .before .before .entry-at .ensures) (start .pre .0) _ _ _ (c .before .before .before .before .before .before .part .ensures) (c .before .before .before .before .before .before .before .before .before .big .ensures) (c .before .before .before .before .before .before .before .big2 .ensures), c .before .before .before .before .put-hex .ensures .end)
-
-put-location-requires : tie.Need-put-location-requires
-put-location-requires c κs =
-    let start = c .before .before .before .before .before .before .before .before .before .before .before .before .before .before .before .before .before .before in
-    omega (arith, start .pre .1, line-ends (start .args .index .now) (start .args .l) (start .args .page .0) (start .args .slot .0) _ (c .before .before .before .before .before .before .before .before .before .before .before .before .before .before .entry-at .ensures) (start .pre .0) _ _ _ (c .before .before .before .before .before .before .before .before .before .before .part .ensures) (c .before .before .before .before .before .before .before .before .before .before .before .before .before .big .ensures) (c .before .before .before .before .before .before .before .before .before .before .before .big2 .ensures), c .before .before .before .before .before .before .before .before .put-hex .ensures .end, c .before .before .before .put-number .ensures .end)
-
-slice-aggregate-put : tie.Need-slice-aggregate-put
-slice-aggregate-put c = search needs
-
-put-requires : tie.Need-put-requires
-put-requires c κs =
-    let start = c .before .before .before .before .before .before .before .before .before .before .before .before .before .before .before .before .before .before .before .before .before .before .before in
-    omega (arith, start .pre .1, line-ends (start .args .index .now) (start .args .l) (start .args .page .0) (start .args .slot .0) _ (c .before .before .before .before .before .before .before .before .before .before .before .before .before .before .before .before .before .before .before .entry-at .ensures) (start .pre .0) _ _ _ (c .before .before .before .before .before .before .before .before .before .before .before .before .before .before .before .part .ensures) (c .before .before .before .before .before .before .before .before .before .before .before .before .before .before .before .before .before .before .big .ensures) (c .before .before .before .before .before .before .before .before .before .before .before .before .before .before .before .before .big2 .ensures), c .before .before .before .before .before .before .before .before .before .before .before .before .before .put-hex .ensures .end, c .before .before .before .before .before .before .before .before .put-number .ensures .end, c .before .before .before .before .put-location .ensures .end)
+put-entry-requires : tie.Need-put-entry-requires
+put-entry-requires c κs = search needs
 
 same-length : tie.Need-same-length
 same-length c = search needs
 
 returns : tie.Need-returns
-unfolding ascii
 returns c =
-    let start = c .before .before .before .before .before .before .before .before .before .before .before .before .before .before .before .before .before .before .before .before .before .before .before .before .before .before in
-    put-same
-    (put-next (put-next (put-next (c .before .before .before .before .before .before .before .before .before .before .before .before .before .before .before .before .put-hex .ensures) (c .before .before .before .before .before .before .before .before .before .before .before .put-number .ensures)) (c .before .before .before .before .before .before .before .put-location .ensures)) (c .before .before .put .ensures))
-    (line-is (start .args .index .now) (start .args .l) (start .args .page .0) (start .args .slot .0) _ (c .before .before .before .before .before .before .before .before .before .before .before .before .before .before .before .before .before .before .before .before .before .before .entry-at .ensures) (start .pre .0) _ _ _ (c .before .before .before .before .before .before .before .before .before .before .before .before .before .before .before .before .before .before .part .ensures) (c .before .before .before .before .before .before .before .before .before .before .before .before .before .before .before .before .before .before .before .before .before .big .ensures) (c .before .before .before .before .before .before .before .before .before .before .before .before .before .before .before .before .before .before .before .big2 .ensures))
+    let start = c .before .before .before .before .before .before .before .before .before .before .before .before in
+    put-same (c .before .before .put-entry .ensures)
+    (line-is (start .args .index .now) (start .args .l) (start .args .page .0) (start .args .slot .0) _ (c .before .before .before .before .before .before .before .before .entry-at .ensures) (start .pre) _ _ _ (c .before .before .before .before .part .ensures) (c .before .before .before .before .before .before .before .big .ensures) (c .before .before .before .before .before .big2 .ensures))
 
 pub put-line-spec : {M : Type 1} → statement M
 put-line-spec =
@@ -91,11 +65,6 @@ put-line-spec =
     cast-big
     big-requires-2
     part-requires
-    put-hex-requires
-    slice-aggregate-put-number
-    put-number-requires
-    put-location-requires
-    slice-aggregate-put
-    put-requires
+    put-entry-requires
     same-length
     returns)

@@ -1,0 +1,48 @@
+// The lines of a listing, put into output from a place on.
+use index_layout::Layout;
+use lookup::archive;
+use lookup::offset;
+use text::put;
+use text::put_hex;
+use text::put_number;
+ghost use Rattle.text.specs.Put.{Put};
+ghost use Rattle.lines.specs.Lines as spec;
+
+// Key length, offset width, entries and pages.
+pub fn put_header(l: Layout, output: &mut [u8], at: usize) -> usize
+    ensures { λ r. ⌜ Put (now (output .entry)) at (spec.header l) (now (output .exit)) r ⌝ }
+{
+    let mut to = put_number(b"index key=", l.key_length as u64, output, at);
+    to = put_number(b" offset=", l.offset_width as u64, output, to);
+    to = put_number(b" entries=", l.entries as u64, output, to);
+    to = put_number(b" pages=", l.pages as u64, output, to);
+    put(b"\n", output, to)
+}
+
+// Archive number and offset, or a dash and the offset.
+fn put_location(width: u8, location: u64, output: &mut [u8], at: usize) -> usize
+    ensures { λ r. ⌜ Put (now (output .entry)) at (spec.locationText width location) (now (output .exit)) r ⌝ }
+{
+    if width == 6 {
+        let to = put_number(b" ", archive(location) as u64, output, at);
+        return put_number(b" ", offset(location) as u64, output, to);
+    }
+    put_number(b" - ", location, output, at)
+}
+
+// The line of an entry, by its values.
+pub fn put_entry(
+    key: &[u8],
+    size: u64,
+    width: u8,
+    location: u64,
+    output: &mut [u8],
+    at: usize,
+) -> usize
+    ensures { λ r. ⌜ Put (now (output .entry)) at (spec.entryLine (now (key .entry)) size width location) (now (output .exit)) r ⌝ }
+{
+    let mut to = put_hex(key, output, at);
+    to = put_number(b" ", size, output, to);
+    to = put_location(width, location, output, to);
+    put(b"\n", output, to)
+}
