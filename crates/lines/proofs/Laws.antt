@@ -8,7 +8,7 @@ use lib.Dec.{eqb}
 use lib.ListN.{length, length-append}
 use borrow.Author.Tests.{eq-eqb, ne-eqb}
 use Rattle.index_layout.specs.declared.Layout.{Layout}
-use Rattle.lookup.specs.Lookup.{archiveOf, offsetOf}
+use Rattle.index_layout.specs.Entries.{archiveOf, offsetOf}
 use Rattle.text.specs.Text.{ascii, numbered}
 use Rattle.text.proofs.TextLaws.{decimal-most, hex-length}
 use Rattle.lines.specs.Lines.{header, locationText, entryLine}

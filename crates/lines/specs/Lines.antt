@@ -4,7 +4,7 @@ use mathlib.Core.List.{List, _++_}
 use Prim.Native.Nat.{ℕ}
 use lib.Dec.{eqb}
 use Rattle.index_layout.specs.declared.Layout.{Layout}
-use Rattle.lookup.specs.Lookup.{archiveOf, offsetOf}
+use Rattle.index_layout.specs.Entries.{archiveOf, offsetOf}
 use Rattle.text.specs.Text.{ascii, numbered, hex}
 
 -- The first line: K, W, n and P.

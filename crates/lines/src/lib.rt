@@ -1,7 +1,7 @@
 // The lines of a listing, put into output from a place on.
 use index_layout::Layout;
-use lookup::archive;
-use lookup::offset;
+use index_layout::archive;
+use index_layout::offset;
 use text::put;
 use text::put_hex;
 use text::put_number;

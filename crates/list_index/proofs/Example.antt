@@ -10,7 +10,7 @@ use Rattle.key.specs.Order.{compared, decided}
 use Rattle.index_layout.specs.Layout.{layoutFrom, pagesFor, entrySize, full, onPage, entryAt, lastKeyAt, pageHashAt, indexLength}
 use Rattle.index_open.specs.Open.{fieldCheck, fieldsCheck, footerHashCheck, footerCheck, opening}
 use Rattle.index.specs.Check.{pageHashCheck, paddingCheck, keyBefore, notAbove, orderCheck, lastKeyCheck, pageCheck, pagesCheck, fullCheck}
-use Rattle.lookup.specs.Lookup.{sizeAt, locationAt}
+use Rattle.index_layout.specs.Entries.{sizeAt, locationAt}
 use Rattle.lookup.proofs.Marked.{one, none}
 use Rattle.text.specs.Text.{ascii, decimalDigits, hex}
 use Rattle.lines.specs.Lines.{header, locationText, entryLine}

@@ -13,12 +13,12 @@ use Rattle.refusal.specs.Check.{silent}
 use Rattle.refusal.specs.Number.{listing-input}
 use Rattle.refusal.proofs.Laws.{first-left, first-right, silent-test}
 use Rattle.index_layout.specs.declared.Layout.{Layout}
-use Rattle.index_layout.specs.Layout.{layoutFrom, layoutOf, full, onPage, indexLength, entryAt, keyAt}
+use Rattle.index_layout.specs.Layout.{pageSize, hashLength, layoutFrom, layoutOf, full, onPage, indexLength, entryAt, keyAt}
 use Rattle.index_open.specs.Open.{opening}
 use Rattle.index.specs.Check.{pagesCheck, fullCheck}
 use Rattle.index_layout.proofs.Laws.{full-fits, on-page-full}
 use Rattle.index_open.proofs.Opened.{Opened, opened, size-range}
-use Rattle.lookup.specs.Lookup.{sizeAt, locationAt}
+use Rattle.index_layout.specs.Entries.{sizeAt, locationAt}
 use Rattle.lines.specs.Lines.{header}
 use Rattle.lines.proofs.Laws.{header-most, entry-most}
 use Rattle.listing.specs.Listing.{line, pageText, pagesText, textBy, textOf, inputCheck, listingCheck}
@@ -52,7 +52,7 @@ module _ (s : List ℕ) (o : Opened s) where
   pages-most : length s ≤ 65536 → layoutOf s .pages ≤ 15
   unfolding indexLength layoutFrom
   pages-most h =
-      let wide : 4105 ≤ 4096 + layoutOf s .«key_length» + 8 = omega (arith, o .key-low) in
+      let wide : 4105 ≤ pageSize + layoutOf s .«key_length» + hashLength = omega (arith, o .key-low) in
       omega (arith, o .whole, mul-le-mul-left (layoutOf s .pages) wide)
 
   listed-most : length s ≤ 65536 → length (textOf s) ≤ 655360

@@ -12,7 +12,7 @@ use Rattle.refusal.specs.Output.{filled}
 use Rattle.index_layout.specs.declared.Layout.{Layout}
 use Rattle.index_layout.specs.Layout.{onPage, layoutOf, keyAt}
 use Rattle.index.specs.Check.{fullCheck}
-use Rattle.lookup.specs.Lookup.{sizeAt, locationAt}
+use Rattle.index_layout.specs.Entries.{sizeAt, locationAt}
 use Rattle.lines.specs.Lines.{header, entryLine}
 use Rattle.listing.specs.declared.ListingText.{ListingText}
 use Rattle.listing.specs.declared.ListingText.the-variants.{Length, Refused}

@@ -2,6 +2,7 @@
 use field::big;
 use index_layout::Layout;
 use index_layout::Page;
+use index_layout::SIZE_WIDTH;
 use index_layout::Slot;
 use index_open::Checked;
 use lines::put_entry;
@@ -33,8 +34,12 @@ fn put_line(index: &[u8], l: Layout, page: Page, slot: Slot, output: &mut [u8], 
 {
     let key = l.key_length as usize;
     let entry = l.entry_at(page, slot);
-    let size = big(index, entry + key, 4);
-    let location = big(index, entry + key + 4, l.offset_width as usize);
+    let size = big(index, entry + key, SIZE_WIDTH as usize);
+    let location = big(
+        index,
+        entry + key + SIZE_WIDTH as usize,
+        l.offset_width as usize,
+    );
     put_entry(
         part(index, entry, key),
         size,

@@ -18,6 +18,9 @@ add-big c =
     let a = c .before .before .before .before .args in
     omega (arith, entry-fits (a .l) (a .page .0) (a .slot .0) _ (c .entry-at .ensures) (search needs) (search needs) (search needs) (search needs))
 
+cast-big : tie.Need-cast-big
+cast-big c = search needs
+
 big-requires : tie.Need-big-requires
 big-requires c κs = search needs
 
@@ -26,13 +29,16 @@ add-big-2 c =
     let a = c .before .before .before .before .before .args in
     omega (arith, entry-fits (a .l) (a .page .0) (a .slot .0) _ (c .before .entry-at .ensures) (search needs) (search needs) (search needs) (search needs))
 
+cast-big-2 : tie.Need-cast-big-2
+cast-big-2 c = search needs
+
 add-big-3 : tie.Need-add-big-3
 add-big-3 c =
     let a = c .before .before .before .before .before .args in
     omega (arith, entry-fits (a .l) (a .page .0) (a .slot .0) _ (c .before .entry-at .ensures) (search needs) (search needs) (search needs) (search needs))
 
-cast-big : tie.Need-cast-big
-cast-big c = search needs
+cast-big-3 : tie.Need-cast-big-3
+cast-big-3 c = search needs
 
 big-requires-2 : tie.Need-big-requires-2
 big-requires-2 c κs = search needs
@@ -59,10 +65,12 @@ put-line-spec =
     cast-key
     entry-at-requires
     add-big
+    cast-big
     big-requires
     add-big-2
+    cast-big-2
     add-big-3
-    cast-big
+    cast-big-3
     big-requires-2
     part-requires
     put-entry-requires
