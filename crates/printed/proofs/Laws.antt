@@ -1,5 +1,5 @@
 -- Laws of what is printed: the place of a refusal, how long a line is, and what the listing's answer says.
-use mathlib.Core.Path.{_≡_, sym, ap, _∙_}
+use mathlib.Core.Path.{_≡_, refl, sym, ap, _∙_}
 use mathlib.Core.Bool.{Bool, true, false, cond}
 use mathlib.Core.List.{List, [], _∷_}
 use Prim.Native.Nat.{ℕ, _≤_, zero-le}
@@ -34,15 +34,14 @@ module _ (number place : ℕ) (t : Bool) (e : t ≡ hasPlace number) where
 
 -- ---- how long a line is
 
-place-most : (b : Bool) (place : ℕ) → length (cond b (numbered " at " place) []) ≤ 24
+place-most : (number place : ℕ) (b : Bool) → b ≡ hasPlace number → length (placeText number place) ≤ 24
 unfolding ascii
-place-most true place = omega (arith, decimal-most place)
-place-most false place = zero-le
+place-most number place true e = rw (← place-told number place true e refl) (omega (arith, decimal-most place))
+place-most number place false e = rw (← place-left number place false e refl) zero-le
 
 line-most : (number place : ℕ) → length (refusalLine number place) ≤ 53
-unfolding refusalLine placeText ascii
-line-most number place =
-    simp length-append (omega (arith, decimal-most number, place-most (hasPlace number) place))
+unfolding refusalLine ascii
+line-most number place = simp length-append (omega (arith, decimal-most number, place-most number place (hasPlace number) refl))
 
 -- ---- what the listing's answer says
 
