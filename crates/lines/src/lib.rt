@@ -5,12 +5,16 @@ use index_layout::offset;
 use text::put;
 use text::put_hex;
 use text::put_number;
-ghost use Rattle.text.specs.Put.{Put};
+ghost use mathlib.Core.Path.{_≡_};
+ghost use lib.ListN.{length};
+ghost use Rattle.parts.specs.Part.{overlay};
+ghost use Rattle.text.specs.Place.{placeAfter};
 ghost use Rattle.lines.specs.Lines as spec;
 
 // Key length, offset width, entries and pages.
 pub fn put_header(l: Layout, output: &mut [u8], at: usize) -> usize
-    ensures { λ r. ⌜ Put (now (output .entry)) at (spec.header l) (now (output .exit)) r ⌝ }
+    ensures { λ r. ⌜ r ≡ placeAfter at (length (spec.header l)) ⌝ }
+    ensures { λ _. ⌜ now (output .exit) ≡ overlay (now (output .entry)) at (spec.header l) ⌝ }
 {
     let mut to = put_number(b"index key=", l.key_length as u64, output, at);
     to = put_number(b" offset=", l.offset_width as u64, output, to);
@@ -21,7 +25,8 @@ pub fn put_header(l: Layout, output: &mut [u8], at: usize) -> usize
 
 // Archive number and offset, or a dash and the offset.
 fn put_location(width: u8, location: u64, output: &mut [u8], at: usize) -> usize
-    ensures { λ r. ⌜ Put (now (output .entry)) at (spec.locationText width location) (now (output .exit)) r ⌝ }
+    ensures { λ r. ⌜ r ≡ placeAfter at (length (spec.locationText width location)) ⌝ }
+    ensures { λ _. ⌜ now (output .exit) ≡ overlay (now (output .entry)) at (spec.locationText width location) ⌝ }
 {
     if width == 6 {
         let to = put_number(b" ", archive(location) as u64, output, at);
@@ -39,7 +44,8 @@ pub fn put_entry(
     output: &mut [u8],
     at: usize,
 ) -> usize
-    ensures { λ r. ⌜ Put (now (output .entry)) at (spec.entryLine (now (key .entry)) size width location) (now (output .exit)) r ⌝ }
+    ensures { λ r. ⌜ r ≡ placeAfter at (length (spec.entryLine (now (key .entry)) size width location)) ⌝ }
+    ensures { λ _. ⌜ now (output .exit) ≡ overlay (now (output .entry)) at (spec.entryLine (now (key .entry)) size width location) ⌝ }
 {
     let mut to = put_hex(key, output, at);
     to = put_number(b" ", size, output, to);

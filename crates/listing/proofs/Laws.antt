@@ -15,8 +15,7 @@ use Rattle.index_open.specs.declared.Checked.the-variants.{Passed}
 use Rattle.index_layout.specs.Layout.{layoutOf, layoutFrom}
 use Rattle.index_open.specs.Open.{layoutValues, outcome}
 use Rattle.index_open.proofs.Laws.{passed-index}
-use Rattle.text.specs.Put.{Put}
-use Rattle.text.proofs.PutLaws.{put-whole}
+use Rattle.text.proofs.PutLaws.{Put, put-whole}
 use Rattle.listing.specs.Listing.{textBy, textOf, listingCheck, fitted}
 use Rattle.listing.proofs.Most.{listed, text-most}
 

@@ -12,10 +12,12 @@ use refusal::LISTING_INPUT;
 use refusal::Refusal;
 ghost use mathlib.Core.Path.{_≡_};
 ghost use Prim.Native.Nat.{_≤_};
+ghost use lib.ListN.{length};
 ghost use Rattle.refusal.specs.Outcome.{answered, after};
 ghost use Rattle.index_layout.specs.Layout.{layoutOf};
 ghost use Rattle.index_open.specs.Open.{layoutValues, outcome};
-ghost use Rattle.text.specs.Put.{Put};
+ghost use Rattle.parts.specs.Part.{overlay};
+ghost use Rattle.text.specs.Place.{placeAfter};
 ghost use Rattle.listing.specs.Listing as spec;
 
 // The longest input that is listed.
@@ -30,7 +32,8 @@ pub enum ListingText {
 // The line of an entry.
 fn put_line(index: &[u8], l: Layout, page: Page, slot: Slot, output: &mut [u8], at: usize) -> usize
     requires { ⌜ l .«offset_width» ≤ 8 ⌝ }
-    ensures { λ r. ⌜ Put (now (output .entry)) at (spec.line (now (index .entry)) l (page .0) (slot .0)) (now (output .exit)) r ⌝ }
+    ensures { λ r. ⌜ r ≡ placeAfter at (length (spec.line (now (index .entry)) l (page .0) (slot .0))) ⌝ }
+    ensures { λ _. ⌜ now (output .exit) ≡ overlay (now (output .entry)) at (spec.line (now (index .entry)) l (page .0) (slot .0)) ⌝ }
 {
     let key = l.key_length as usize;
     let entry = l.entry_at(page, slot);
@@ -53,7 +56,8 @@ fn put_line(index: &[u8], l: Layout, page: Page, slot: Slot, output: &mut [u8], 
 // The lines of a page's entries.
 fn put_page(index: &[u8], l: Layout, page: Page, output: &mut [u8], at: usize) -> usize
     requires { ⌜ l .«offset_width» ≤ 8 ⌝ }
-    ensures { λ r. ⌜ Put (now (output .entry)) at (spec.pageText (now (index .entry)) l (page .0)) (now (output .exit)) r ⌝ }
+    ensures { λ r. ⌜ r ≡ placeAfter at (length (spec.pageText (now (index .entry)) l (page .0))) ⌝ }
+    ensures { λ _. ⌜ now (output .exit) ≡ overlay (now (output .entry)) at (spec.pageText (now (index .entry)) l (page .0)) ⌝ }
 {
     let count = l.on_page(page);
     let mut to = at;
@@ -68,7 +72,8 @@ fn put_page(index: &[u8], l: Layout, page: Page, output: &mut [u8], at: usize) -
 // The lines of all pages.
 fn put_pages(index: &[u8], l: Layout, output: &mut [u8], at: usize) -> usize
     requires { ⌜ l .«offset_width» ≤ 8 ⌝ }
-    ensures { λ r. ⌜ Put (now (output .entry)) at (spec.pagesText (now (index .entry)) l) (now (output .exit)) r ⌝ }
+    ensures { λ r. ⌜ r ≡ placeAfter at (length (spec.pagesText (now (index .entry)) l)) ⌝ }
+    ensures { λ _. ⌜ now (output .exit) ≡ overlay (now (output .entry)) at (spec.pagesText (now (index .entry)) l) ⌝ }
 {
     let pages = l.pages;
     let mut to = at;
@@ -96,7 +101,8 @@ fn check(input: &[u8]) -> Checked
 // The whole text.
 fn put_text(index: &[u8], l: Layout, output: &mut [u8]) -> usize
     requires { ⌜ l .«offset_width» ≤ 8 ⌝ }
-    ensures { λ r. ⌜ Put (now (output .entry)) 0 (spec.textBy (now (index .entry)) l) (now (output .exit)) r ⌝ }
+    ensures { λ r. ⌜ r ≡ placeAfter 0 (length (spec.textBy (now (index .entry)) l)) ⌝ }
+    ensures { λ _. ⌜ now (output .exit) ≡ overlay (now (output .entry)) 0 (spec.textBy (now (index .entry)) l) ⌝ }
 {
     let to = put_header(l, output, 0);
     put_pages(index, l, output, to)

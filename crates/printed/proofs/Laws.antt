@@ -12,8 +12,7 @@ use Rattle.refusal.specs.Outcome.{answered, after}
 use Rattle.refusal.specs.Output.{filled}
 use Rattle.refusal.proofs.Laws.{answered-after, refusal-after}
 use Rattle.text.specs.Text.{ascii, decimal, numbered}
-use Rattle.text.specs.Put.{Put}
-use Rattle.text.proofs.PutLaws.{put-whole}
+use Rattle.text.proofs.PutLaws.{Put, put-whole}
 use Rattle.text.proofs.TextLaws.{decimal-most}
 use Rattle.listing.specs.declared.ListingText.{ListingText}
 use Rattle.listing.specs.declared.ListingText.the-variants.{Length, Refused}

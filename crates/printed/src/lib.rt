@@ -18,7 +18,8 @@ ghost use mathlib.Core.Path.{_≡_};
 ghost use lib.ListN.{length};
 ghost use Rattle.refusal.specs.Check.{silent};
 ghost use Rattle.refusal.specs.Output.{filled};
-ghost use Rattle.text.specs.Put.{Put};
+ghost use Rattle.parts.specs.Part.{overlay};
+ghost use Rattle.text.specs.Place.{placeAfter};
 ghost use Rattle.printed.specs.Printed as spec;
 
 // No text is longer.
@@ -37,7 +38,8 @@ fn has_place(number: u32) -> bool
 
 // The place of a refusal, where it has one.
 fn put_place(r: Refusal, output: &mut [u8], at: usize) -> usize
-    ensures { λ to. ⌜ Put (now (output .entry)) at (spec.placeText (r .number) (r .place)) (now (output .exit)) to ⌝ }
+    ensures { λ to. ⌜ to ≡ placeAfter at (length (spec.placeText (r .number) (r .place))) ⌝ }
+    ensures { λ _. ⌜ now (output .exit) ≡ overlay (now (output .entry)) at (spec.placeText (r .number) (r .place)) ⌝ }
 {
     if has_place(r.number) {
         return put_number(b" at ", r.place as u64, output, at);
@@ -47,7 +49,8 @@ fn put_place(r: Refusal, output: &mut [u8], at: usize) -> usize
 
 // The line of a refusal.
 fn put_refusal(r: Refusal, output: &mut [u8]) -> usize
-    ensures { λ to. ⌜ Put (now (output .entry)) 0 (spec.refusalLine (r .number) (r .place)) (now (output .exit)) to ⌝ }
+    ensures { λ to. ⌜ to ≡ placeAfter 0 (length (spec.refusalLine (r .number) (r .place))) ⌝ }
+    ensures { λ _. ⌜ now (output .exit) ≡ overlay (now (output .entry)) 0 (spec.refusalLine (r .number) (r .place)) ⌝ }
 {
     let mut to = put_number(b"refused ", r.number as u64, output, 0);
     to = put_place(r, output, to);

@@ -9,7 +9,19 @@ use lib.Seq.{drop-length}
 use Rattle.parts.specs.Part.{overlay, partsFrom}
 use Rattle.parts.proofs.Laws.{overlay-length, overlay-inside, overlay-none, overlay-after}
 use Rattle.parts.proofs.Parts.{parts-next}
-use Rattle.text.specs.Put.{Put}
+use Rattle.text.specs.Place.{placeAfter}
+
+-- what a function ensures that puts a text: the place after it, and every byte of the output
+pub record Put (output : List ℕ) (at : ℕ) (text after : List ℕ) (to : ℕ) : Type 0 where
+  pub end : to ≡ placeAfter at (length text)
+  pub bytes : after ≡ overlay output at text
+
+pub told : (output : List ℕ) (at : ℕ) (text after : List ℕ) (to : ℕ) → (to ≡ placeAfter at (length text)) × (after ≡ overlay output at text)
+    → Put output at text after to
+told output at text after to e = record { end = e .0; bytes = e .1 }
+
+pub both : {output text after : List ℕ} {at to : ℕ} → Put output at text after to → (to ≡ placeAfter at (length text)) × (after ≡ overlay output at text)
+both p = (p .end, p .bytes)
 
 -- a place past the end of the output is as good as another
 overlay-clipped : (out : List ℕ) (at most : ℕ) (from : List ℕ) → length out ≤ most → overlay out (min at most) from ≡ overlay out at from

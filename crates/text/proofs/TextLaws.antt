@@ -11,9 +11,8 @@ use lib.ListN.{length, take, drop, set, getD, length-append, length-take, length
 use lib.Seq.{drop-cons, drop-set-lt, getD-set-same}
 use borrow.Author.Tests.{lt-ltb, le-ltb}
 use Rattle.parts.proofs.Laws.{part-to-end}
-use Rattle.text.specs.Put.{Put}
 use Rattle.text.specs.Text.{decimalDigits, decimal, hexDigit, hex}
-use Rattle.text.proofs.PutLaws.{put-next}
+use Rattle.text.proofs.PutLaws.{Put, put-next}
 
 -- ---- decimal
 

@@ -4,8 +4,10 @@ use parts::copy;
 ghost use mathlib.Core.Path.{_≡_};
 ghost use mathlib.Core.List.{_++_};
 ghost use Prim.Native.Nat.{_+_, _<_};
+ghost use lib.ListN.{length};
+ghost use Rattle.parts.specs.Part.{overlay};
 ghost use Rattle.text.specs.Text as spec;
-ghost use Rattle.text.specs.Put.{Put, placeAfter};
+ghost use Rattle.text.specs.Place.{placeAfter};
 
 const GREATEST: usize = 18_446_744_073_709_551_615;
 
@@ -22,7 +24,8 @@ fn place_after(at: usize, length: usize) -> usize
 
 // Bytes as they are.
 pub fn put(text: &[u8], output: &mut [u8], at: usize) -> usize
-    ensures { λ r. ⌜ Put (now (output .entry)) at (now (text .entry)) (now (output .exit)) r ⌝ }
+    ensures { λ r. ⌜ r ≡ placeAfter at (length (now (text .entry))) ⌝ }
+    ensures { λ _. ⌜ now (output .exit) ≡ overlay (now (output .entry)) at (now (text .entry)) ⌝ }
 {
     copy(text, output, at);
     place_after(at, text.len())
@@ -30,7 +33,8 @@ pub fn put(text: &[u8], output: &mut [u8], at: usize) -> usize
 
 // A number in decimal.
 fn put_decimal(n: u64, output: &mut [u8], at: usize) -> usize
-    ensures { λ r. ⌜ Put (now (output .entry)) at (spec.decimal n) (now (output .exit)) r ⌝ }
+    ensures { λ r. ⌜ r ≡ placeAfter at (length (spec.decimal n)) ⌝ }
+    ensures { λ _. ⌜ now (output .exit) ≡ overlay (now (output .entry)) at (spec.decimal n) ⌝ }
 {
     let mut digits = [0u8; 20];
     let mut first = 19;
@@ -46,7 +50,8 @@ fn put_decimal(n: u64, output: &mut [u8], at: usize) -> usize
 
 // A word, and a number in decimal after it.
 pub fn put_number(word: &[u8], n: u64, output: &mut [u8], at: usize) -> usize
-    ensures { λ r. ⌜ Put (now (output .entry)) at (now (word .entry) ++ spec.decimal n) (now (output .exit)) r ⌝ }
+    ensures { λ r. ⌜ r ≡ placeAfter at (length (now (word .entry) ++ spec.decimal n)) ⌝ }
+    ensures { λ _. ⌜ now (output .exit) ≡ overlay (now (output .entry)) at (now (word .entry) ++ spec.decimal n) ⌝ }
 {
     let to = put(word, output, at);
     put_decimal(n, output, to)
@@ -61,7 +66,8 @@ fn hex_digit(d: u8) -> u8
 
 // Bytes in hex.
 pub fn put_hex(bytes: &[u8], output: &mut [u8], at: usize) -> usize
-    ensures { λ r. ⌜ Put (now (output .entry)) at (spec.hex (now (bytes .entry))) (now (output .exit)) r ⌝ }
+    ensures { λ r. ⌜ r ≡ placeAfter at (length (spec.hex (now (bytes .entry)))) ⌝ }
+    ensures { λ _. ⌜ now (output .exit) ≡ overlay (now (output .entry)) at (spec.hex (now (bytes .entry))) ⌝ }
 {
     let mut to = at;
     let mut i = 0;

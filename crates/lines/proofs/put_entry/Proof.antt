@@ -1,7 +1,7 @@
 -- `lines::put_entry`: key, size and location, one text after the other.
 use borrow.Author.Needs.{needs}
 use Rattle.text.specs.Text.{ascii}
-use Rattle.text.proofs.PutLaws.{put-next}
+use Rattle.text.proofs.PutLaws.{both, told, put-next}
 use Rattle.lines.specs.Lines.{entryLine}
 use Rattle.lines.proofs.put_entry.Statement.{statement}
 use Rattle.lines.proofs.put_entry.Tie as tie
@@ -31,9 +31,9 @@ returns : tie.Need-returns
 unfolding entryLine ascii
 returns c =
     let room = c .before .before .before .before .before .before .before .before .before .before .before .before .before .before .before .before .before .before .before .before .good .1 .1 .1 .1 .0 .0 in
-    put-next room
-    (put-next room (put-next room (c .before .before .before .before .before .before .before .before .before .before .before .before .before .before .before .before .put-hex .ensures) (c .before .before .before .before .before .before .before .before .before .before .before .put-number .ensures)) (c .before .before .before .before .before .before .before .put-location .ensures))
-    (c .before .before .put .ensures)
+    both (put-next room
+    (put-next room (put-next room (told _ _ _ _ _ (c .before .before .before .before .before .before .before .before .before .before .before .before .before .before .before .before .put-hex .ensures)) (told _ _ _ _ _ (c .before .before .before .before .before .before .before .before .before .before .before .put-number .ensures))) (told _ _ _ _ _ (c .before .before .before .before .before .before .before .put-location .ensures)))
+    (told _ _ _ _ _ (c .before .before .put .ensures)))
 
 pub put-entry-spec : {M : Type 1} → statement M
 put-entry-spec =

@@ -2,7 +2,7 @@
 use borrow.Author.Needs.{needs}
 use Rattle.text.specs.Text.{ascii}
 use Rattle.lines.specs.Lines.{header}
-use Rattle.text.proofs.PutLaws.{put-next}
+use Rattle.text.proofs.PutLaws.{both, told, put-next}
 use Rattle.lines.proofs.put_header.Statement.{statement}
 use Rattle.lines.proofs.put_header.Tie as tie
 
@@ -55,13 +55,13 @@ returns : tie.Need-returns
 unfolding header ascii
 returns c =
     let room = c .before .before .before .before .before .before .before .before .before .before .before .before .before .before .before .before .before .before .before .before .before .before .before .before .before .before .before .before .before .before .good .1 .0 .0 in
-    put-next room
+    both (put-next room
     (put-next room
     (put-next room
-    (put-next room (c .before .before .before .before .before .before .before .before .before .before .before .before .before .before .before .before .before .before .before .before .before .before .before .before .before .put-number .ensures) (c .before .before .before .before .before .before .before .before .before .before .before .before .before .before .before .before .before .before .before .put-number2 .ensures))
-    (c .before .before .before .before .before .before .before .before .before .before .before .before .before .put-number3 .ensures))
-    (c .before .before .before .before .before .before .before .put-number4 .ensures))
-    (c .before .before .put .ensures)
+    (put-next room (told _ _ _ _ _ (c .before .before .before .before .before .before .before .before .before .before .before .before .before .before .before .before .before .before .before .before .before .before .before .before .before .put-number .ensures)) (told _ _ _ _ _ (c .before .before .before .before .before .before .before .before .before .before .before .before .before .before .before .before .before .before .before .put-number2 .ensures)))
+    (told _ _ _ _ _ (c .before .before .before .before .before .before .before .before .before .before .before .before .before .put-number3 .ensures)))
+    (told _ _ _ _ _ (c .before .before .before .before .before .before .before .put-number4 .ensures)))
+    (told _ _ _ _ _ (c .before .before .put .ensures)))
 
 pub put-header-spec : {M : Type 1} → statement M
 put-header-spec =

@@ -1,7 +1,7 @@
 -- `lines::put_location`: archive number and offset, or a dash.
 use borrow.Author.Needs.{needs}
 use Rattle.text.specs.Text.{ascii}
-use Rattle.text.proofs.PutLaws.{put-next, put-same}
+use Rattle.text.proofs.PutLaws.{both, told, put-next, put-same}
 use Rattle.lines.proofs.Laws.{location-six, location-dash}
 use Rattle.lines.proofs.put_location.Statement.{statement}
 use Rattle.lines.proofs.put_location.Tie as tie
@@ -36,8 +36,8 @@ same-length c = search needs
 returns : tie.Need-returns
 unfolding ascii
 returns c =
-    put-same (put-next (search needs) (c .before .before .before .before .before .before .before .before .put-number .ensures) (c .before .before .put-number2 .ensures))
-    (location-six _ _ _ _ (c .before .before .before .before .before .before .before .before .before .before .before .before .if1 .taken) (c .before .before .before .before .before .before .before .before .before .before .archive .ensures) (c .before .before .before .before .offset .ensures))
+    both (put-same (put-next (search needs) (told _ _ _ _ _ (c .before .before .before .before .before .before .before .before .put-number .ensures)) (told _ _ _ _ _ (c .before .before .put-number2 .ensures)))
+    (location-six _ _ _ _ (c .before .before .before .before .before .before .before .before .before .before .before .before .if1 .taken) (c .before .before .before .before .before .before .before .before .before .before .archive .ensures) (c .before .before .before .before .offset .ensures)))
 
 slice-aggregate-put-number-3 : tie.Need-slice-aggregate-put-number-3
 slice-aggregate-put-number-3 c = search needs
@@ -50,7 +50,7 @@ same-length-2 c = search needs
 
 returns-2 : tie.Need-returns-2
 unfolding ascii
-returns-2 c = put-same (c .before .before .put-number3 .ensures) (location-dash _ _ (c .before .before .before .before .before .if1 .left))
+returns-2 c = both (put-same (told _ _ _ _ _ (c .before .before .put-number3 .ensures)) (location-dash _ _ (c .before .before .before .before .before .if1 .left)))
 
 pub put-location-spec : {M : Type 1} → statement M
 put-location-spec =

@@ -7,7 +7,7 @@ use Rattle.refusal.specs.Outcome.{answered}
 use Rattle.refusal.proofs.Laws.{after-said, after-quiet}
 use Rattle.index_layout.specs.Layout.{layoutOf}
 use Rattle.index_open.proofs.Laws.{refused-index}
-use Rattle.text.proofs.PutLaws.{put-same}
+use Rattle.text.proofs.PutLaws.{told, put-same}
 use Rattle.listing.specs.Listing.{textOf, listingCheck, outcome, fitted}
 use Rattle.listing.proofs.Laws.{Listable, listable, measured, fitted-whole, fitted-none}
 use Rattle.listing.proofs.listing.Statement.{statement}
@@ -50,8 +50,8 @@ unfolding outcome
 returns-2 c =
     let s = c .before .before .before .before .before .before .before .before .before .before .before .before .before .before .args .input .now in
     let i = passed (c .before .before .before .before .before .before .before .before .before) in
-    let length-is = measured s _ i _ _ _ (c .before .before .before .before .before .before .put-text .ensures) in
-    let put = put-same (c .before .before .put-text2 .ensures) (i .whole) in
+    let length-is = measured s _ i _ _ _ (told _ _ _ _ _ (c .before .before .before .before .before .before .put-text .ensures)) in
+    let put = put-same (told _ _ _ _ _ (c .before .before .put-text2 .ensures)) (i .whole) in
     let e = sym (ap (λ t. fitted t (textOf s) (c .before .before .before .before .before .before .before .before .before .before .before .before .before .before .args .output .now)) (i .quiet)) in
     (ap (λ n. answered (n ∷ [])) length-is ∙ sym (after-quiet _ (i .quiet)), fitted-whole _ (textOf s) _ _ put (omega (arith, c .before .before .before .before .if1 .taken)) ∙ e)
 
@@ -60,7 +60,7 @@ unfolding outcome
 returns-3 c =
     let s = c .before .before .before .before .before .before .before .before .before .before .args .input .now in
     let i = passed (c .before .before .before .before .before) in
-    let length-is = measured s _ i _ _ _ (c .before .before .put-text .ensures) in
+    let length-is = measured s _ i _ _ _ (told _ _ _ _ _ (c .before .before .put-text .ensures)) in
     let e = sym (ap (λ t. fitted t (textOf s) (c .before .before .before .before .before .before .before .before .before .before .args .output .now)) (i .quiet)) in
     (ap (λ n. answered (n ∷ [])) length-is ∙ sym (after-quiet _ (i .quiet)), fitted-none _ (textOf s) (omega (arith, c .if1 .left)) ∙ e)
 

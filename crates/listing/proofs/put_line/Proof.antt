@@ -2,7 +2,6 @@
 use native.Mathlib.Omega.{arith}
 use borrow.Author.Needs.{needs}
 use Rattle.lookup.proofs.Laws.{entry-fits}
-use Rattle.text.proofs.PutLaws.{put-same}
 use Rattle.listing.proofs.Lines.{line-is}
 use Rattle.listing.proofs.put_line.Statement.{statement}
 use Rattle.listing.proofs.put_line.Tie as tie
@@ -55,8 +54,7 @@ same-length c = search needs
 returns : tie.Need-returns
 returns c =
     let start = c .before .before .before .before .before .before .before .before .before .before .before .before in
-    put-same (c .before .before .put-entry .ensures)
-    (line-is (start .args .index .now) (start .args .l) (start .args .page .0) (start .args .slot .0) _ (c .before .before .before .before .before .before .before .before .entry-at .ensures) (start .pre) _ _ _ (c .before .before .before .before .part .ensures) (c .before .before .before .before .before .before .before .big .ensures) (c .before .before .before .before .before .big2 .ensures))
+    rw (line-is (start .args .index .now) (start .args .l) (start .args .page .0) (start .args .slot .0) _ (c .before .before .before .before .before .before .before .before .entry-at .ensures) (start .pre) _ _ _ (c .before .before .before .before .part .ensures) (c .before .before .before .before .before .before .before .big .ensures) (c .before .before .before .before .before .big2 .ensures)) at (c .before .before .put-entry .ensures)
 
 pub put-line-spec : {M : Type 1} → statement M
 put-line-spec =

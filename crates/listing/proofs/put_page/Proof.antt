@@ -6,9 +6,8 @@ use borrow.Author.Needs.{needs}
 use Rattle.parts.specs.Part.{partsFrom}
 use Rattle.index_layout.specs.Layout.{onPage}
 use Rattle.index_layout.proofs.Laws.{on-page-most}
-use Rattle.text.specs.Put.{Put}
 use Rattle.listing.specs.Listing.{line, pageText}
-use Rattle.text.proofs.PutLaws.{put-none, put-same, put-length, put-part}
+use Rattle.text.proofs.PutLaws.{both, told, Put, put-none, put-same, put-length, put-part}
 use Rattle.listing.proofs.put_page.Statement.{statement}
 use Rattle.listing.proofs.put_page.Tie as tie
 
@@ -41,7 +40,7 @@ loop-less : tie.Need-loop-less Inv-loop μ-loop
 loop-less c = search needs
 
 loop-again : tie.Need-loop-again Inv-loop μ-loop
-loop-again c = (search needs, put-part _ _ (search needs) (c .before .before .before .before .before .loop .inv .1) (c .before .before .put-line .ensures))
+loop-again c = (search needs, put-part _ _ (search needs) (c .before .before .before .before .before .loop .inv .1) (told _ _ _ _ _ (c .before .before .put-line .ensures)))
 
 same-length : tie.Need-same-length Inv-loop μ-loop
 same-length c = put-length (c .before .loop .inv .1)
@@ -52,7 +51,7 @@ returns c =
     let start = c .before .before .before .before .before in
     let l = c .before .loop in
     let all : l .i ≡ onPage (start .args .l) (start .args .page .0) = omega (arith, c .before .before .on-page .ensures) in
-    put-same (l .inv .1) (ap (partsFrom (line (start .args .index .now) (start .args .l) (start .args .page .0)) 0) all)
+    both (put-same (l .inv .1) (ap (partsFrom (line (start .args .index .now) (start .args .l) (start .args .page .0)) 0) all))
 
 pub put-page-spec : {M : Type 1} → statement M
 put-page-spec =

@@ -4,9 +4,8 @@ use Prim.Native.Nat.{_-_, _≤_}
 use native.Mathlib.Omega.{arith}
 use borrow.Author.Needs.{needs}
 use Rattle.parts.specs.Part.{partsFrom}
-use Rattle.text.specs.Put.{Put}
 use Rattle.listing.specs.Listing.{pageText, pagesText}
-use Rattle.text.proofs.PutLaws.{put-none, put-same, put-length, put-part}
+use Rattle.text.proofs.PutLaws.{both, told, Put, put-none, put-same, put-length, put-part}
 use Rattle.listing.proofs.put_pages.Statement.{statement}
 use Rattle.listing.proofs.put_pages.Tie as tie
 
@@ -31,7 +30,7 @@ loop-less : tie.Need-loop-less Inv-loop μ-loop
 loop-less c = search needs
 
 loop-again : tie.Need-loop-again Inv-loop μ-loop
-loop-again c = (search needs, put-part _ _ (search needs) (c .before .before .before .before .before .loop .inv .1) (c .before .before .put-page .ensures))
+loop-again c = (search needs, put-part _ _ (search needs) (c .before .before .before .before .before .loop .inv .1) (told _ _ _ _ _ (c .before .before .put-page .ensures)))
 
 same-length : tie.Need-same-length Inv-loop μ-loop
 same-length c = put-length (c .before .loop .inv .1)
@@ -42,7 +41,7 @@ returns c =
     let start = c .before .before .before .before in
     let l = c .before .loop in
     let all : l .p ≡ start .args .l .pages = omega arith in
-    put-same (l .inv .1) (ap (partsFrom (pageText (start .args .index .now) (start .args .l)) 0) all)
+    both (put-same (l .inv .1) (ap (partsFrom (pageText (start .args .index .now) (start .args .l)) 0) all))
 
 pub put-pages-spec : {M : Type 1} → statement M
 put-pages-spec =

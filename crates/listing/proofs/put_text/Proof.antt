@@ -1,6 +1,6 @@
 -- `listing::put_text`: header and pages.
 use borrow.Author.Needs.{needs}
-use Rattle.text.proofs.PutLaws.{put-next}
+use Rattle.text.proofs.PutLaws.{both, told, put-next}
 use Rattle.listing.specs.Listing.{textBy}
 use Rattle.listing.proofs.put_text.Statement.{statement}
 use Rattle.listing.proofs.put_text.Tie as tie
@@ -16,7 +16,7 @@ same-length c = search needs
 
 returns : tie.Need-returns
 unfolding textBy
-returns c = put-next (search needs) (c .before .before .before .before .before .before .put-header .ensures) (c .before .before .put-pages .ensures)
+returns c = both (put-next (search needs) (told _ _ _ _ _ (c .before .before .before .before .before .before .put-header .ensures)) (told _ _ _ _ _ (c .before .before .put-pages .ensures)))
 
 pub put-text-spec : {M : Type 1} → statement M
 put-text-spec = tie.close (tie.spec put-header-requires put-pages-requires same-length returns)

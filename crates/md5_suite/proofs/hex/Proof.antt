@@ -3,7 +3,7 @@ use mathlib.Core.Path.{_≡_, _∙_}
 use native.Mathlib.Omega.{arith}
 use lib.ListN.{length}
 use borrow.Author.Needs.{needs}
-use Rattle.text.proofs.PutLaws.{put-filled}
+use Rattle.text.proofs.PutLaws.{told, put-filled}
 use Rattle.text.proofs.TextLaws.{hex-length}
 use Rattle.md5_suite.proofs.hex.Statement.{statement}
 use Rattle.md5_suite.proofs.hex.Tie as tie
@@ -20,7 +20,7 @@ put-hex-requires c κs = search needs
 returns : tie.Need-returns
 returns c =
     let size : length (c .before .before .before .before .args .digest .now) ≡ 16 = search needs in
-    put-filled _ _ _ _ (c .before .put-hex .ensures) (hex-length (c .before .before .before .before .args .digest .now) ∙ omega arith)
+    put-filled _ _ _ _ (told _ _ _ _ _ (c .before .put-hex .ensures)) (hex-length (c .before .before .before .before .args .digest .now) ∙ omega arith)
 
 pub hex-spec : {M : Type 1} → statement M
 hex-spec = tie.close (tie.spec slice-aggregate-put-hex put-hex-requires returns)

@@ -2,6 +2,7 @@
 use mathlib.Core.Path.{_≡_}
 use lib.ListN.{length}
 use borrow.Author.Needs.{needs}
+use Rattle.text.proofs.PutLaws.{told}
 use Rattle.printed.proofs.Laws.{told-length, told-bytes, refused-put}
 use Rattle.printed.proofs.print.Statement.{statement}
 use Rattle.printed.proofs.print.Tie as tie
@@ -31,7 +32,7 @@ returns-2 c =
     let a = c .before .before .before .before .before .before .before .before .args in
     let room : length (a .output .now) ≡ 655360 = search needs in
     let l = c .before .before .before .before .before .listing in
-    refused-put (a .input .now) (l .result) (l .ensures .0) (a .output .now) _ _ _ (c .before .before .before .r .given .1) room (l .ensures .1) (c .put-refusal .ensures)
+    refused-put (a .input .now) (l .result) (l .ensures .0) (a .output .now) _ _ _ (c .before .before .before .r .given .1) room (l .ensures .1) (told _ _ _ _ _ (c .put-refusal .ensures))
 
 pub print-spec : {M : Type 1} → statement M
 print-spec =

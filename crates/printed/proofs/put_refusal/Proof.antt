@@ -1,7 +1,7 @@
 -- `printed::put_refusal`: one text after the other.
 use borrow.Author.Needs.{needs}
 use Rattle.text.specs.Text.{ascii}
-use Rattle.text.proofs.PutLaws.{put-next}
+use Rattle.text.proofs.PutLaws.{both, told, put-next}
 use Rattle.printed.specs.Printed.{refusalLine}
 use Rattle.printed.proofs.put_refusal.Statement.{statement}
 use Rattle.printed.proofs.put_refusal.Tie as tie
@@ -31,7 +31,7 @@ returns : tie.Need-returns
 unfolding refusalLine ascii
 returns c =
     let room = c .before .before .before .before .before .before .before .before .before .before .before .before .before .before .before .before .good .1 .0 .0 in
-    put-next room (put-next room (c .before .before .before .before .before .before .before .before .before .before .before .put-number .ensures) (c .before .before .before .before .before .before .before .put-place .ensures)) (c .before .before .put .ensures)
+    both (put-next room (put-next room (told _ _ _ _ _ (c .before .before .before .before .before .before .before .before .before .before .before .put-number .ensures)) (told _ _ _ _ _ (c .before .before .before .before .before .before .before .put-place .ensures))) (told _ _ _ _ _ (c .before .before .put .ensures)))
 
 pub put-refusal-spec : {M : Type 1} → statement M
 put-refusal-spec =

@@ -6,7 +6,6 @@ use native.Mathlib.Omega.{arith}
 use lib.ListN.{length, drop, length-set}
 use borrow.Author.Needs.{needs}
 use Rattle.text.specs.Text.{decimalDigits, decimal}
-use Rattle.text.proofs.PutLaws.{put-same}
 use Rattle.text.proofs.TextLaws.{digit-turn, digit-last, two-left, tenth-fits}
 use Rattle.text.proofs.put_decimal.Statement.{statement}
 use Rattle.text.proofs.put_decimal.Tie as tie
@@ -77,7 +76,7 @@ returns c =
     let l = c .before .before .before .before .before .before .before .loop in
     let a = c .before .before .before .before .before .before .before .before .before .args in
     let left = c .before .before .before .before .before .before .loop-test .left in
-    put-same (c .before .before .put .ensures) (digit-last (a .n) (l .first) (l .rest) (l .digits) left (l .inv .0) (l .inv .1) (l .inv .3))
+    rw (digit-last (a .n) (l .first) (l .rest) (l .digits) left (l .inv .0) (l .inv .1) (l .inv .3)) at (c .before .before .put .ensures)
 
 pub put-decimal-spec : {M : Type 1} → statement M
 put-decimal-spec =

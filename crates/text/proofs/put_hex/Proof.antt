@@ -5,9 +5,8 @@ use native.Mathlib.Omega.{arith}
 use lib.ListN.{length, take}
 use lib.Seq.{take-all}
 use borrow.Author.Needs.{needs}
-use Rattle.text.specs.Put.{Put}
 use Rattle.text.specs.Text.{hex}
-use Rattle.text.proofs.PutLaws.{put-none, put-same, put-length}
+use Rattle.text.proofs.PutLaws.{both, told, Put, put-none, put-same, put-length}
 use Rattle.text.proofs.TextLaws.{hex-turn}
 use Rattle.text.proofs.put_hex.Statement.{statement}
 use Rattle.text.proofs.put_hex.Tie as tie
@@ -48,7 +47,7 @@ loop-again c =
     let l = c .before .before .before .before .before .before .before .before .before .loop in
     let s = c .before .before .before .before .before .before .before .before .before .before .before .before .args .bytes .now in (
       search needs,
-      hex-turn s (l .i) _ _ (search needs) (c .before .before .before .before .before .before .before .before .loop-test .taken) (c .before .before .before .before .before .before .hex-digit .ensures) (c .before .before .before .before .before .hex-digit2 .ensures) (l .inv .1) (c .before .before .put .ensures),
+      hex-turn s (l .i) _ _ (search needs) (c .before .before .before .before .before .before .before .before .loop-test .taken) (c .before .before .before .before .before .before .hex-digit .ensures) (c .before .before .before .before .before .hex-digit2 .ensures) (l .inv .1) (told _ _ _ _ _ (c .before .before .put .ensures)),
     )
 
 same-length : tie.Need-same-length Inv-loop μ-loop
@@ -57,7 +56,7 @@ same-length c = put-length (c .before .loop .inv .1)
 returns : tie.Need-returns Inv-loop μ-loop
 returns c =
     let l = c .before .loop in
-    put-same (l .inv .1) (ap hex (take-all (l .i) (c .before .before .before .before .args .bytes .now) (c .loop-test .left)))
+    both (put-same (l .inv .1) (ap hex (take-all (l .i) (c .before .before .before .before .args .bytes .now) (c .loop-test .left))))
 
 pub put-hex-spec : {M : Type 1} → statement M
 put-hex-spec =

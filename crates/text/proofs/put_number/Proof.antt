@@ -3,7 +3,7 @@ use native.Mathlib.Omega.{arith}
 use lib.ListN.{length-append}
 use borrow.Author.Needs.{needs}
 use Rattle.text.specs.Text.{decimal}
-use Rattle.text.proofs.PutLaws.{put-next}
+use Rattle.text.proofs.PutLaws.{both, told, put-next}
 use Rattle.text.proofs.put_number.Statement.{statement}
 use Rattle.text.proofs.put_number.Tie as tie
 
@@ -17,7 +17,7 @@ same-length : tie.Need-same-length
 same-length c = search needs
 
 returns : tie.Need-returns
-returns c = put-next (search needs) (c .before .before .before .before .before .before .put .ensures) (c .before .before .put-decimal .ensures)
+returns c = both (put-next (search needs) (told _ _ _ _ _ (c .before .before .before .before .before .before .put .ensures)) (told _ _ _ _ _ (c .before .before .put-decimal .ensures)))
 
 pub put-number-spec : {M : Type 1} → statement M
 put-number-spec = tie.close (tie.spec put-requires put-decimal-requires same-length returns)
