@@ -62,11 +62,15 @@ module _ (s : List ℕ) (o : Opened s) where
       (omega (arith, header-most (layoutOf s), parts-most (pageText s (layoutOf s)) 43680 0 (layoutOf s .pages) page-most, pages-most h))
 
 -- an input that is listed
+both-silent : (s : List ℕ) → listingCheck s ≡ silent → (inputCheck s ≡ silent) × (fullCheck s ≡ silent)
+unfolding listingCheck
+both-silent s e = (search (first-left, first-right), search (first-left, first-right))
+
 pub listed : (s : List ℕ) → listingCheck s ≡ silent → (length s ≤ 65536) × Opened s
-unfolding listingCheck fullCheck
+unfolding fullCheck
 listed s e = (
-  ltb-false 65536 (length s) (silent-test (ltb 65536 (length s)) listing-input 0 (first-left (inputCheck s) (fullCheck s) e)),
-  opened s (first-left (opening s) (pagesCheck s (layoutOf s)) (first-right (inputCheck s) (fullCheck s) e)),
+  ltb-false 65536 (length s) (silent-test (ltb 65536 (length s)) listing-input 0 (both-silent s e .0)),
+  opened s (first-left (opening s) (pagesCheck s (layoutOf s)) (both-silent s e .1)),
 )
 
 pub text-most : (s : List ℕ) → listingCheck s ≡ silent → length (textOf s) ≤ 655360
