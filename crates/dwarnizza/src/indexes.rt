@@ -2,6 +2,7 @@
 use crate::answer::refused;
 use entries::Listed;
 use index_open::Checked;
+use listing::ListingText;
 use lookup::Answer;
 use lookup::Bounded;
 use writer::Settings;
@@ -15,10 +16,9 @@ ghost use Rattle.entries.specs.List.{listCheck, listOutcome};
 ghost use Rattle.lookup.specs.Lookup.{lookupOf, boundOf};
 ghost use Rattle.writer.specs.File.{fileOf};
 ghost use Rattle.writer.specs.Write.{layoutFor, writeCheck, writeOutcome};
-ghost use Rattle.listing.specs.Put.{fitted};
-ghost use Rattle.listing.specs.Listing as listing;
+ghost use Rattle.listing.specs.Listing.{textOf, listingCheck, listingOutcome, fitted};
 ghost use Rattle.dwarnizza.specs.Answer.{result, wordsOf};
-ghost use Rattle.dwarnizza.specs.Indexes.{settingsFrom, listingOutcome};
+ghost use Rattle.dwarnizza.specs.Indexes.{settingsFrom};
 
 // The full check: version, offset width, key length, entries and pages.
 #[no_mangle]
@@ -129,8 +129,7 @@ pub extern "C" fn dwarnizza_index_write(
     }
 }
 
-// The listing of an index, or the line of a refusal: the length of the text. Where the output has no room for all of it, every
-// byte of the output stays.
+// The listing of an index: the length of the text, which stands at the output's start where there is room for all of it.
 #[no_mangle]
 pub extern "C" fn dwarnizza_index_listing(
     input: &[u8],
@@ -138,10 +137,14 @@ pub extern "C" fn dwarnizza_index_listing(
     answer: &mut [u64; 8],
 ) -> u32
     ensures { λ r. ⌜ r ≡ result (listingOutcome (now (input .entry))) ⌝ }
-    ensures { λ _. ⌜ now (output .exit) ≡ fitted (listing.text (now (input .entry))) (now (output .entry)) ⌝ }
+    ensures { λ _. ⌜ now (output .exit) ≡ fitted (listingCheck (now (input .entry))) (textOf (now (input .entry))) (now (output .entry)) ⌝ }
     ensures { λ _. ⌜ now (answer .exit) ≡ wordsOf (listingOutcome (now (input .entry))) ⌝ }
 {
-    let characters = listing::listing(input, output) as u64;
-    *answer = [characters, 0, 0, 0, 0, 0, 0, 0];
-    0
+    match listing::listing(input, output) {
+        ListingText::Refused(r) => refused(r, answer),
+        ListingText::Length(length) => {
+            *answer = [length as u64, 0, 0, 0, 0, 0, 0, 0];
+            0
+        }
+    }
 }

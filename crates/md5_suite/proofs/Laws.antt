@@ -1,20 +1,19 @@
--- Laws of one turn of each loop: one more byte of the data, one more byte as two digits, one more part.
+-- Laws of one turn of each loop: one more byte of the data, one more part.
 use mathlib.Core.Path.{_≡_, refl, sym, ap, ap₂, _∙_}
 use mathlib.Core.Bool.{false, cond}
-use mathlib.Core.List.{List, [], _∷_, _++_, append-assoc, append-nil}
-use Prim.Native.Nat.{ℕ, suc, _+_, _-_, _*_, _/_, _%_, _^_, _≤_, _<_}
+use mathlib.Core.List.{List, [], _∷_, _++_, append-nil}
+use Prim.Native.Nat.{ℕ, suc, _+_, _-_, _^_, _≤_, _<_}
 use native.Mathlib.Nat.{zero-add}
 use native.Mathlib.Numerals.{add-one}
 use native.Mathlib.Omega.{arith}
 use borrow.Author.Tests.{le-ltb}
-use lib.ListN.{length, getD, take, drop, set, replicate, length-set, length-drop, length-replicate}
+use lib.ListN.{length, take, drop, set, replicate, length-drop, length-replicate}
 use lib.Seq.{take-suc-set, take-add, length-take-le}
-use Rattle.io.specs.Digits.{glyph}
 use Rattle.md5.specs.Block.{blocks}
 use Rattle.md5.specs.Message.{Running, started, absorbed, finished, tooLong, updated, inParts, joined, md5}
 use Rattle.md5.proofs.MessageLaws.{absorbed-append}
 use Rattle.md5.proofs.Cutting.{any-cutting}
-use Rattle.md5_suite.specs.Suite.{dataByte, dataOf, hexOf}
+use Rattle.md5_suite.specs.Suite.{dataByte, dataOf}
 
 pub zeros-length : (n : ℕ) → n ≡ length (replicate {A = ℕ} n 0)
 zeros-length n = sym (length-replicate n 0)
@@ -22,21 +21,6 @@ zeros-length n = sym (length-replicate n 0)
 pub data-more : (to : List ℕ) (i v : ℕ) → i < length to → take i to ≡ dataOf i → v ≡ dataByte i → take (i + 1) (set to i v) ≡ dataOf (i + 1)
 unfolding dataOf
 data-more to i v h e f = rw add-one (take-suc-set to i v h ∙ ap₂ (λ (l : List ℕ) b. l ++ (b ∷ [])) e f)
-
-pub hex-more : (text s : List ℕ) (i v w : ℕ) → i * 2 + 1 < length text → take (i * 2) text ≡ hexOf i s
-    → v ≡ glyph (getD s i 0 / 16) → w ≡ glyph (getD s i 0 % 16)
-    → take ((i + 1) * 2) (set (set text (i * 2) v) (i * 2 + 1) w) ≡ hexOf (i + 1) s
-unfolding hexOf
-hex-more text s i v w h e p q =
-    let n : (i + 1) * 2 ≡ suc (i * 2 + 1) = omega arith in
-    let first : i * 2 < length text = omega arith in
-    let second : i * 2 + 1 < length (set text (i * 2) v) = simp length-set h in
-    ap (λ k. take k (set (set text (i * 2) v) (i * 2 + 1) w)) n
-    ∙ take-suc-set (set text (i * 2) v) (i * 2 + 1) w second
-    ∙ ap (λ (l : List ℕ). l ++ (w ∷ [])) (ap (λ k. take k (set text (i * 2) v)) (add-one (i * 2)) ∙ take-suc-set text (i * 2) v first)
-    ∙ append-assoc (take (i * 2) text) (v ∷ []) (w ∷ [])
-    ∙ ap₂ (λ (l m : List ℕ). l ++ m) e (ap₂ (λ a b. a ∷ b ∷ []) p q)
-    ∙ ap (λ k. hexOf k s) (sym (add-one i))
 
 -- no bytes yet
 pub none-absorbed : started ≡ absorbed started []
