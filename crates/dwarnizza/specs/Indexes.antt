@@ -3,5 +3,5 @@ use Prim.Native.Nat.{ℕ}
 use Rattle.writer.specs.declared.Settings.{Settings}
 
 -- The settings of an index, of three numbers.
-abbrev pub settingsFrom : (version offset key : ℕ) → Settings
-settingsFrom version offset key = record { version = version; offset = offset; key = key }
+abbrev pub settingsFrom : (version offsetWidth keyLength : ℕ) → Settings
+settingsFrom version offsetWidth keyLength = record { version = version; «offset_width» = offsetWidth; «key_length» = keyLength }

@@ -14,7 +14,7 @@ ghost use Rattle.index.specs.Check.{checkOutcome};
 ghost use Rattle.index_layout.specs.Entries.{listOf};
 ghost use Rattle.entries.specs.List.{listCheck, listOutcome};
 ghost use Rattle.lookup.specs.Lookup.{lookupOf, boundOf};
-ghost use Rattle.writer.specs.File.{fileOf};
+ghost use Rattle.index_file.specs.File.{fileOf};
 ghost use Rattle.writer.specs.Write.{layoutFor, writeCheck, writeOutcome};
 ghost use Rattle.listing.specs.Listing.{textOf, listingCheck, listingOutcome, fitted};
 ghost use Rattle.dwarnizza.specs.Answer.{result, wordsOf};
@@ -30,11 +30,11 @@ pub extern "C" fn dwarnizza_index_check(index: &[u8], answer: &mut [u64; 8]) -> 
         Checked::Refused(r) => refused(r, answer),
         Checked::Passed(l) => {
             let version = l.version as u64;
-            let offset = l.offset_width as u64;
-            let key = l.key_length as u64;
+            let offset_width = l.offset_width as u64;
+            let key_length = l.key_length as u64;
             let entries = l.entries as u64;
             let pages = l.pages as u64;
-            *answer = [version, offset, key, entries, pages, 0, 0, 0];
+            *answer = [version, offset_width, key_length, entries, pages, 0, 0, 0];
             0
         }
     }
@@ -105,20 +105,20 @@ pub extern "C" fn dwarnizza_index_bound(index: &[u8], answer: &mut [u64; 8]) -> 
 #[no_mangle]
 pub extern "C" fn dwarnizza_index_write(
     version: u8,
-    offset: u8,
-    key: u8,
+    offset_width: u8,
+    key_length: u8,
     list: &[u8],
     output: &mut [u8],
     answer: &mut [u64; 8],
 ) -> u32
-    ensures { λ r. ⌜ r ≡ result (writeOutcome (settingsFrom version offset key) (now (list .entry)) (length (now (output .entry)))) ⌝ }
-    ensures { λ _. ⌜ now (output .exit) ≡ filled (writeCheck (settingsFrom version offset key) (now (list .entry)) (length (now (output .entry)))) (fileOf (now (list .entry)) (layoutFor (settingsFrom version offset key) (now (list .entry)))) (now (output .entry)) ⌝ }
-    ensures { λ _. ⌜ now (answer .exit) ≡ wordsOf (writeOutcome (settingsFrom version offset key) (now (list .entry)) (length (now (output .entry)))) ⌝ }
+    ensures { λ r. ⌜ r ≡ result (writeOutcome (settingsFrom version «offset_width» «key_length») (now (list .entry)) (length (now (output .entry)))) ⌝ }
+    ensures { λ _. ⌜ now (output .exit) ≡ filled (writeCheck (settingsFrom version «offset_width» «key_length») (now (list .entry)) (length (now (output .entry)))) (fileOf (now (list .entry)) (layoutFor (settingsFrom version «offset_width» «key_length») (now (list .entry)))) (now (output .entry)) ⌝ }
+    ensures { λ _. ⌜ now (answer .exit) ≡ wordsOf (writeOutcome (settingsFrom version «offset_width» «key_length») (now (list .entry)) (length (now (output .entry)))) ⌝ }
 {
     let settings = Settings {
         version,
-        offset,
-        key,
+        offset_width,
+        key_length,
     };
     match writer::write(settings, list, output) {
         Written::Refused(r) => refused(r, answer),

@@ -1,6 +1,5 @@
--- Document 01's listing, whole: the index with K 1, W 4 and one entry, key 05, size 7, offset 9; and other inputs.
+-- The listing of document 01's index, its hashes checked, and the lines of refusals.
 use mathlib.Core.Path.{_≡_, refl, ap, _∙_}
-use mathlib.Core.List.{[]}
 use Rattle.field.specs.Number.{bigAt, littleAt, within}
 use Rattle.parts.specs.Part.{sameBytes, allZero, partsFrom}
 use Rattle.refusal.specs.Check.{silent, refused, refusedIf, first, firstFrom}
@@ -11,10 +10,11 @@ use Rattle.index_layout.specs.Layout.{layoutFrom, pagesFor, entrySize, full, on
 use Rattle.index_open.specs.Open.{fieldCheck, fieldsCheck, footerHashCheck, footerCheck, opening}
 use Rattle.index.specs.Check.{pageHashCheck, paddingCheck, keyBefore, notAbove, orderCheck, lastKeyCheck, pageCheck, pagesCheck, fullCheck}
 use Rattle.index_layout.specs.Entries.{sizeAt, locationAt}
-use Rattle.lookup.proofs.Marked.{one, none}
 use Rattle.text.specs.Text.{ascii, decimalDigits, hex}
 use Rattle.lines.specs.Lines.{header, locationText, entryLine}
 use Rattle.listing.specs.Listing.{line, pageText, pagesText, textBy, textOf, listingCheck}
+use Rattle.examples.specs.Inputs.{one, none}
+use Rattle.examples.specs.Examples.{Listing}
 use Rattle.printed.specs.Printed.{hasPlace, placeText, refusalLine, printedAfter, printed}
 
 -- both indexes pass the full check, their hashes with it
@@ -28,12 +28,13 @@ texts : (textOf one ≡ ascii "index key=1 offset=4 entries=1 pages=1\n05 7 - 9\
 unfolding textBy header pagesText pageText line entryLine locationText ascii decimalDigits hex partsFrom layoutFrom pagesFor entrySize full onPage entryAt sizeAt locationAt littleAt bigAt
 texts = (refl, refl)
 
--- what the program prints for the two, and for no bytes; and the lines of refusals
-pub example : (printed one ≡ ascii "index key=1 offset=4 entries=1 pages=1\n05 7 - 9\n")
-    × (printed none ≡ ascii "index key=1 offset=4 entries=0 pages=0\n")
-    × (printed [] ≡ ascii "refused 1\n")
-    × (refusalLine 8 3 ≡ ascii "refused 8 at 3\n")
-    × (refusalLine 6 0 ≡ ascii "refused 6 at 0\n")
-    × (refusalLine 70 0 ≡ ascii "refused 70\n")
+pub listing : Listing
 unfolding printed listingCheck fullCheck opening refusedIf first printedAfter refusalLine placeText hasPlace within ascii decimalDigits
-example = (ap (λ k. printedAfter k one) (passes .0) ∙ texts .0, ap (λ k. printedAfter k none) (passes .1) ∙ texts .1, refl, refl, refl, refl)
+listing = record {
+  one-entry = ap (λ k. printedAfter k one) (passes .0) ∙ texts .0;
+  no-entries = ap (λ k. printedAfter k none) (passes .1) ∙ texts .1;
+  no-bytes = refl;
+  with-place = refl;
+  place-zero = refl;
+  without-place = refl;
+}
