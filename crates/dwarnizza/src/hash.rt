@@ -1,7 +1,7 @@
 // MD5.
 use crate::answer::tell;
 use md5::Md5;
-use md5::Words;
+use md5_block::Words;
 use refusal::Verdict;
 ghost use mathlib.Core.Path.{_≡_};
 ghost use mathlib.Core.Bool.{cond};

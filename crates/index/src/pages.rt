@@ -5,7 +5,7 @@ use crate::Slot;
 use field::all_zero;
 use field::equal;
 use field::part;
-use md5::TwoFirstEights;
+use md5_two::first_eight_of_two;
 use refusal::INDEX_ORDER;
 use refusal::INDEX_PADDING;
 use refusal::INDEX_PAGE_HASH;
@@ -22,13 +22,24 @@ ghost use Rattle.refusal.specs.Number.{index-page-hash, index-padding, last-key
 ghost use Rattle.index.specs.Layout as layout;
 ghost use Rattle.index.specs.Check as spec;
 
-// The first eight bytes of the hashes of a page and of the next. Two are hashed together because that is quicker.
-pub fn page_hashes(s: &[u8], page: Page) -> TwoFirstEights
+// The first eight bytes of the hashes of a page and of the next.
+pub struct PageHashes {
+    pub first: [u8; 8],
+    pub second: [u8; 8],
+}
+
+// Two pages are hashed together because that is quicker.
+pub fn page_hashes(s: &[u8], page: Page) -> PageHashes
     ensures { λ r. ⌜ r .first ≡ take 8 (md5 (layout.pageOf (now (s .entry)) (page .0))) ⌝ }
     ensures { λ r. ⌜ r .second ≡ take 8 (md5 (layout.pageOf (now (s .entry)) (page .0 + 1))) ⌝ }
 {
     let at = page.0 as usize * 4096;
-    md5::first_eight_of_two(part(s, at, 4096), part(s, at + 4096, 4096))
+    let both = first_eight_of_two(part(s, at, 4096), part(s, at + 4096, 4096));
+    let hash = both.first;
+    let next_hash = both.second;
+    let first = hash.bytes;
+    let second = next_hash.bytes;
+    PageHashes { first, second }
 }
 
 // The first eight bytes of a page's hash against the stored ones.

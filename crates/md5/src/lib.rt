@@ -10,16 +10,11 @@ ghost use Prim.Native.Nat.{_+_, _-_, _*_, _%_, _^_, _≤_, _<_};
 ghost use lib.ListN.{length, take, replicate};
 ghost use Rattle.refusal.specs.Check.{checkOf};
 ghost use Rattle.md5.specs.Message as spec;
-ghost use Rattle.md5.specs.Two as two;
-
-mod block;
-mod two;
-
-use block::ADDENDS;
-pub use block::Words;
-use block::block;
-use two::Two;
-use two::block_two;
+use md5_block::ADDENDS;
+use md5_block::Words;
+use md5_block::block;
+use md5_block::block_words;
+use md5_block::blocks;
 
 // The most bytes that are hashed in all: 2^48.
 pub const LIMIT: u64 = 281_474_976_710_656;
@@ -49,7 +44,7 @@ pub struct FirstEight {
 }
 
 // Whether n more bytes stay within the limit.
-fn within(count: u64, n: u64) -> bool
+pub fn within(count: u64, n: u64) -> bool
     ensures { λ r. ⌜ spec.tooLong (count + n) ≡ not r ⌝ }
 {
     if LIMIT < count {
@@ -58,7 +53,7 @@ fn within(count: u64, n: u64) -> bool
     n <= LIMIT - count
 }
 
-fn initial() -> Words
+pub fn initial() -> Words
     ensures { λ r. ⌜ r ≡ spec.initial ⌝ }
 {
     Words {
@@ -67,35 +62,6 @@ fn initial() -> Words
         c: 0x98ba_dcfe,
         d: 0x1032_5476,
     }
-}
-
-// The words after each whole block of s.
-fn blocks(w: Words, s: &[u8]) -> Words
-    ensures { λ r. ⌜ r ≡ spec.whole (now (s .entry)) w ⌝ }
-{
-    let k = ADDENDS;
-    let mut e = w;
-    let mut at = 0;
-    while 64 <= s.len() - at {
-        e = block(e, s, at, &k);
-        at += 64;
-    }
-    e
-}
-
-// The same for two messages of one length.
-fn blocks_two(w: Two, s: &[u8], t: &[u8]) -> Two
-    requires { ⌜ length (now s) ≡ length (now t) ⌝ }
-    ensures { λ r. ⌜ r ≡ two.wholeTwo (now (s .entry)) (now (t .entry)) w ⌝ }
-{
-    let k = ADDENDS;
-    let mut e = w;
-    let mut at = 0;
-    while 64 <= s.len() - at {
-        e = block_two(e, s, t, at, &k);
-        at += 64;
-    }
-    e
 }
 
 // Eight times the number of bytes, modulo 2^64, the lowest byte first.
@@ -114,33 +80,45 @@ fn length_bytes(count: u64) -> [u8; 8]
     ]
 }
 
-// The last bytes of the message, filled up to one block or two.
-fn tail(pending: &[u8], count: u64, size: usize) -> [u8; 128]
-    requires { ⌜ (length (now pending) + 9 ≤ size) × (size ≤ 128) ⌝ }
-    ensures { λ r. ⌜ take size r ≡ now (pending .entry) ++ spec.padded (size - 9 - length (now (pending .entry))) count ⌝ }
+// Puts a message's length into the last eight bytes of a block.
+fn put_length(t: &mut [u8; 64], count: u64)
+    ensures { λ _. ⌜ now (t .exit) ≡ take 56 (now (t .entry)) ++ spec.littleBytes 8 (count * 8) ⌝ }
 {
-    let mut t = [0u8; 128];
-    let n = pending.len();
-    copy(pending, &mut t, 0);
-    t[n] = 128;
     let length = length_bytes(count);
-    copy(&length, &mut t, size - 8);
-    t
+    copy(&length, t, 56);
 }
 
-// The words after the last bytes of the message and its padding.
-fn last(w: Words, pending: &[u8], count: u64) -> Words
-    requires { ⌜ length (now pending) ≡ count % 64 ⌝ }
-    ensures { λ r. ⌜ r ≡ spec.whole (now (pending .entry) ++ spec.padding count) w ⌝ }
+// The words of a block of one byte, zeros and a message's length. With 128 it is the padding after whole blocks, with 0 what is
+// left of the padding where the length had no room in the block of the set bit.
+pub fn last_words(first: u8, count: u64) -> [u32; 16]
+    ensures { λ r. ⌜ r ≡ block.wordsOf 16 (first ∷ replicate 55 0 ++ spec.littleBytes 8 (count * 8)) ⌝ }
+{
+    let mut t = [0u8; 64];
+    t[0] = first;
+    put_length(&mut t, count);
+    block_words(&t)
+}
+
+// The words after the end of a message of `count` bytes: the whole blocks of s, the rest of s and the padding. The rest is
+// laid out first, so that it is there when the blocks are done.
+pub fn end(w: Words, s: &[u8], count: u64) -> Words
+    ensures { λ r. ⌜ r ≡ block.whole block.addends (now (s .entry) ++ spec.padded (spec.zeros (length (now (s .entry)))) count) w ⌝ }
 {
     let k = ADDENDS;
-    if pending.len() < 56 {
-        let t = tail(pending, count, 64);
-        return block(w, &t, 0, &k);
+    let n = s.len() % 64;
+    let mut t = [0u8; 64];
+    copy(&s[s.len() - n..], &mut t, 0);
+    t[n] = 128;
+    let e = blocks(w, s, &k);
+    if n < 56 {
+        put_length(&mut t, count);
+        let x = block_words(&t);
+        return block(e, &x, &k);
     }
-    let t = tail(pending, count, 128);
-    let e = block(w, &t, 0, &k);
-    block(e, &t, 64, &k)
+    let x = block_words(&t);
+    let f = block(e, &x, &k);
+    let y = last_words(0, count);
+    block(f, &y, &k)
 }
 
 fn bytes(w: Words) -> [u8; 16]
@@ -168,7 +146,7 @@ fn bytes(w: Words) -> [u8; 16]
 
 fn absorb(state: Md5, part: &[u8]) -> Md5
     requires { ⌜ state .count + length (now part) ≤ 2 ^ 48 ⌝ }
-    ensures { λ r. ⌜ spec.running r ≡ spec.absorbed (spec.running state) (now (part .entry)) ⌝ }
+    ensures { λ r. ⌜ r ≡ spec.absorbed state (now (part .entry)) ⌝ }
 {
     let count = state.count;
     let total = count + part.len() as u64;
@@ -184,15 +162,17 @@ fn absorb(state: Md5, part: &[u8]) -> Md5
             count: total,
         };
     }
+    let k = ADDENDS;
     copy(&part[..room], &mut pending, n);
-    let filled = blocks(w, &pending);
+    let filled = blocks(w, &pending, &k);
     let rest = &part[room..];
-    let words = blocks(filled, rest);
+    let words = blocks(filled, rest, &k);
     let whole = rest.len() / 64 * 64;
-    copy(&rest[whole..], &mut pending, 0);
+    let mut waiting = [0u8; 64];
+    copy(&rest[whole..], &mut waiting, 0);
     Md5 {
         words,
-        pending,
+        pending: waiting,
         count: total,
     }
 }
@@ -233,7 +213,7 @@ impl Md5 {
         let count = self.count;
         let n = (count % 64) as usize;
         let pending = self.pending;
-        bytes(last(self.words, &pending[..n], count))
+        bytes(end(self.words, &pending[..n], count))
     }
 }
 
@@ -249,12 +229,18 @@ pub fn digest(message: &[u8]) -> Hashed
             bytes: [0u8; 16],
         };
     }
-    let w = blocks(initial(), message);
-    let whole = message.len() / 64 * 64;
     Hashed {
         verdict: Verdict::Passed,
-        bytes: bytes(last(w, &message[whole..], n)),
+        bytes: bytes(end(initial(), message, n)),
     }
+}
+
+// The first eight bytes of the digest that the words are.
+pub fn eight(w: Words) -> [u8; 8]
+    ensures { λ r. ⌜ r ≡ take 8 (spec.digestOf w) ⌝ }
+{
+    let b = bytes(w);
+    [b[0], b[1], b[2], b[3], b[4], b[5], b[6], b[7]]
 }
 
 // The first eight bytes of the digest of bytes that are all at hand.
@@ -268,56 +254,5 @@ pub fn first_eight(message: &[u8]) -> FirstEight
     FirstEight {
         verdict,
         bytes: [b[0], b[1], b[2], b[3], b[4], b[5], b[6], b[7]],
-    }
-}
-
-// The first eight bytes of the digest that the words are.
-fn eight(w: Words) -> [u8; 8]
-    ensures { λ r. ⌜ r ≡ take 8 (spec.digestOf w) ⌝ }
-{
-    let b = bytes(w);
-    [b[0], b[1], b[2], b[3], b[4], b[5], b[6], b[7]]
-}
-
-// The first eight bytes of two digests.
-pub struct TwoFirstEights {
-    pub first: [u8; 8],
-    pub second: [u8; 8],
-}
-
-fn one_by_one(a: &[u8], b: &[u8]) -> TwoFirstEights
-    ensures { λ r. ⌜ (r .first ≡ take 8 (spec.digestOr0 (now (a .entry)))) × (r .second ≡ take 8 (spec.digestOr0 (now (b .entry)))) ⌝ }
-{
-    let x = first_eight(a);
-    let y = first_eight(b);
-    let first = x.bytes;
-    let second = y.bytes;
-    TwoFirstEights { first, second }
-}
-
-// The first eight bytes of the digests of two messages. Of one length, they are hashed together, which is quicker than one
-// after the other.
-pub fn first_eight_of_two(a: &[u8], b: &[u8]) -> TwoFirstEights
-    ensures first { λ r. ⌜ r .first ≡ take 8 (spec.digestOr0 (now (a .entry))) ⌝ }
-    ensures second { λ r. ⌜ r .second ≡ take 8 (spec.digestOr0 (now (b .entry))) ⌝ }
-{
-    let n = a.len() as u64;
-    if a.len() != b.len() {
-        return one_by_one(a, b);
-    }
-    if !within(0, n) {
-        return one_by_one(a, b);
-    }
-    let start = Two {
-        first: initial(),
-        second: initial(),
-    };
-    let w = blocks_two(start, a, b);
-    let whole = a.len() / 64 * 64;
-    let v = w.first;
-    let u = w.second;
-    TwoFirstEights {
-        first: eight(last(v, &a[whole..], n)),
-        second: eight(last(u, &b[whole..], n)),
     }
 }

@@ -1,0 +1,124 @@
+// Two blocks of RFC 1321 at once, one of each of two messages. A step waits for the step before it, but not for those of the
+// other message, so that two blocks in turn take little longer than one.
+use md5::FirstEight;
+use md5::eight;
+use md5::first_eight;
+use md5::initial;
+use md5::last_words;
+use md5::within;
+use md5_block::ADDENDS;
+use md5_block::Words;
+use md5_block::block_words;
+use md5_block::four;
+use md5_block::sum;
+use refusal::Verdict;
+ghost use mathlib.Core.Path.{_≡_};
+ghost use Prim.Native.Nat.{_+_, _<_, _≤_};
+ghost use lib.ListN.{length, drop};
+ghost use Rattle.md5_two.specs.Two as spec;
+
+// The words of two messages.
+pub struct Two {
+    pub first: Words,
+    pub second: Words,
+}
+
+fn four_two(g: usize, w: Two, x: &[u32; 16], y: &[u32; 16], k: &[u32; 64]) -> Two
+    ensures { λ r. ⌜ r ≡ spec.stepsTwo (now (k .entry)) (now (x .entry)) (now (y .entry)) (g % 16 * 4) 4 w ⌝ }
+{
+    let first = w.first;
+    let second = w.second;
+    Two {
+        first: four(g, first, x, k),
+        second: four(g, second, y, k),
+    }
+}
+
+// The words after a block of each message.
+fn block_two(w: Two, x: &[u32; 16], y: &[u32; 16], k: &[u32; 64]) -> Two
+    ensures { λ r. ⌜ r ≡ spec.blockTwo (now (k .entry)) (now (x .entry)) (now (y .entry)) w ⌝ }
+{
+    let e = four_two(0, w, x, y, k);
+    let e = four_two(1, e, x, y, k);
+    let e = four_two(2, e, x, y, k);
+    let e = four_two(3, e, x, y, k);
+    let e = four_two(4, e, x, y, k);
+    let e = four_two(5, e, x, y, k);
+    let e = four_two(6, e, x, y, k);
+    let e = four_two(7, e, x, y, k);
+    let e = four_two(8, e, x, y, k);
+    let e = four_two(9, e, x, y, k);
+    let e = four_two(10, e, x, y, k);
+    let e = four_two(11, e, x, y, k);
+    let e = four_two(12, e, x, y, k);
+    let e = four_two(13, e, x, y, k);
+    let e = four_two(14, e, x, y, k);
+    let e = four_two(15, e, x, y, k);
+    let first = w.first;
+    let second = w.second;
+    let after_first = e.first;
+    let after_second = e.second;
+    Two {
+        first: sum(first, after_first),
+        second: sum(second, after_second),
+    }
+}
+
+// The words after as many whole blocks as both messages have.
+fn blocks_two(w: Two, s: &[u8], t: &[u8], k: &[u32; 64]) -> Two
+    requires { ⌜ length (now s) ≡ length (now t) ⌝ }
+    ensures { λ r. ⌜ r ≡ spec.wholeTwo (now (k .entry)) (now (s .entry)) (now (t .entry)) w ⌝ }
+{
+    let mut e = w;
+    let mut at = 0;
+    while 64 <= s.len() - at {
+        let x = block_words(&s[at..]);
+        let y = block_words(&t[at..]);
+        e = block_two(e, &x, &y, k);
+        at += 64;
+    }
+    e
+}
+
+// The first eight bytes of two digests.
+pub struct TwoFirstEights {
+    pub first: FirstEight,
+    pub second: FirstEight,
+}
+
+// Two messages of one length in whole blocks, to the end.
+fn together(a: &[u8], b: &[u8]) -> Two {
+    let k = ADDENDS;
+    let start = Two {
+        first: initial(),
+        second: initial(),
+    };
+    let e = blocks_two(start, a, b, &k);
+    let x = last_words(128, a.len() as u64);
+    block_two(e, &x, &x, &k)
+}
+
+fn passed(w: Words) -> FirstEight {
+    FirstEight {
+        verdict: Verdict::Passed,
+        bytes: eight(w),
+    }
+}
+
+// The first eight bytes of the digests of two messages. Of one length in whole blocks, they are hashed together, which is quicker than one
+// after the other.
+pub fn first_eight_of_two(a: &[u8], b: &[u8]) -> TwoFirstEights {
+    if a.len() != b.len() || a.len() % 64 != 0 || !within(0, a.len() as u64) {
+        return TwoFirstEights {
+            first: first_eight(a),
+            second: first_eight(b),
+        };
+    }
+    let w = together(a, b);
+    let v = w.first;
+    let u = w.second;
+    TwoFirstEights {
+        first: passed(v),
+        second: passed(u),
+    }
+}
