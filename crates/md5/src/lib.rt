@@ -1,5 +1,10 @@
 // MD5 (RFC 1321) over bytes that come in parts.
 use field::copy;
+use md5_block::ADDENDS;
+use md5_block::Words;
+use md5_block::block;
+use md5_block::block_words;
+use md5_block::blocks;
 use refusal::HASH_LIMIT;
 use refusal::Verdict;
 use refusal::refuse;
@@ -9,12 +14,9 @@ ghost use mathlib.Core.List.{_++_, _∷_};
 ghost use Prim.Native.Nat.{_+_, _-_, _*_, _%_, _^_, _≤_, _<_};
 ghost use lib.ListN.{length, take, replicate};
 ghost use Rattle.refusal.specs.Check.{checkOf};
+ghost use Rattle.md5_block.specs.Block.{addends, wordsOf, whole};
 ghost use Rattle.md5.specs.Message as spec;
-use md5_block::ADDENDS;
-use md5_block::Words;
-use md5_block::block;
-use md5_block::block_words;
-use md5_block::blocks;
+ghost use Rattle.md5.specs.Cutting.{Updates};
 
 // The most bytes that are hashed in all: 2^48.
 pub const LIMIT: u64 = 281_474_976_710_656;
@@ -83,6 +85,7 @@ fn length_bytes(count: u64) -> [u8; 8]
 // Puts a message's length into the last eight bytes of a block.
 fn put_length(t: &mut [u8; 64], count: u64)
     ensures { λ _. ⌜ now (t .exit) ≡ take 56 (now (t .entry)) ++ spec.littleBytes 8 (count * 8) ⌝ }
+    ensures { λ _. ⌜ length (now (t .exit)) ≡ 64 ⌝ }
 {
     let length = length_bytes(count);
     copy(&length, t, 56);
@@ -91,7 +94,7 @@ fn put_length(t: &mut [u8; 64], count: u64)
 // The words of a block of one byte, zeros and a message's length. With 128 it is the padding after whole blocks, with 0 what is
 // left of the padding where the length had no room in the block of the set bit.
 pub fn last_words(first: u8, count: u64) -> [u32; 16]
-    ensures { λ r. ⌜ r ≡ block.wordsOf 16 (first ∷ replicate 55 0 ++ spec.littleBytes 8 (count * 8)) ⌝ }
+    ensures { λ r. ⌜ r ≡ wordsOf 16 (first ∷ replicate 55 0 ++ spec.littleBytes 8 (count * 8)) ⌝ }
 {
     let mut t = [0u8; 64];
     t[0] = first;
@@ -102,7 +105,7 @@ pub fn last_words(first: u8, count: u64) -> [u32; 16]
 // The words after the end of a message of `count` bytes: the whole blocks of s, the rest of s and the padding. The rest is
 // laid out first, so that it is there when the blocks are done.
 pub fn end(w: Words, s: &[u8], count: u64) -> Words
-    ensures { λ r. ⌜ r ≡ block.whole block.addends (now (s .entry) ++ spec.padded (spec.zeros (length (now (s .entry)))) count) w ⌝ }
+    ensures { λ r. ⌜ r ≡ whole addends (now (s .entry) ++ spec.padded (spec.zeros (length (now (s .entry)))) count) w ⌝ }
 {
     let k = ADDENDS;
     let n = s.len() % 64;
@@ -179,7 +182,7 @@ fn absorb(state: Md5, part: &[u8]) -> Md5
 
 impl Md5 {
     pub fn new() -> Md5
-        ensures { λ r. ⌜ (r ≡ spec.fresh) × (spec.running r ≡ spec.started) ⌝ }
+        ensures { λ r. ⌜ r ≡ spec.fresh ⌝ }
     {
         Md5 {
             words: initial(),
@@ -190,9 +193,7 @@ impl Md5 {
 
     // Takes the next part of the message. A refused part leaves the state as it was.
     pub fn update(self, part: &[u8]) -> Updated
-        ensures verdict { λ r. ⌜ checkOf (r .verdict) ≡ spec.limited (self .count + length (now (part .entry))) ⌝ }
-        ensures state { λ r. ⌜ spec.running (r .state) ≡ spec.updated (spec.running self) (now (part .entry)) ⌝ }
-        ensures kept { λ r. ⌜ (2 ^ 48 < self .count + length (now (part .entry)) → r .state ≡ self) ⌝ }
+        ensures { λ r. ⌜ Updates self (now (part .entry)) r ⌝ }
     {
         if !within(self.count, part.len() as u64) {
             return Updated {
@@ -208,7 +209,7 @@ impl Md5 {
 
     // The digest of all parts.
     pub fn finish(self) -> [u8; 16]
-        ensures { λ r. ⌜ r ≡ spec.finished (spec.running self) ⌝ }
+        ensures { λ r. ⌜ r ≡ spec.finished self ⌝ }
     {
         let count = self.count;
         let n = (count % 64) as usize;

@@ -1,10 +1,11 @@
 -- `md5::absorb`: a part that stays short of the block, or one that fills it.
 use mathlib.Core.Path.{_≡_, sym, ap, _∙_}
 use Prim.Native.Nat.{_-_, _*_, _/_, _%_}
-use lib.ListN.{length, take, drop}
+use lib.ListN.{length, take, drop, replicate}
 use lib.Seq.{length-take-le}
 use Rattle.field.specs.Part.{overlay}
 use Rattle.field.proofs.Laws.{part-to-end}
+use Rattle.md5_block.specs.Block.{addends}
 use Rattle.md5.proofs.MessageLaws.{absorb-short, absorb-long}
 use borrow.Author.Needs.{needs}
 use Rattle.md5.proofs.absorb.Statement.{statement}
@@ -26,7 +27,7 @@ returns : tie.Need-returns
 returns c =
     let a = c .before .before .before .before .before .before .before .args in
     let size : length (a .state .pending) ≡ 64 = search needs in
-    absorb-short (a .state .pending) (a .part .now) _ (a .state .words) (a .state .count) size (c .before .before .before .if1 .taken) (c .before .copy .ensures)
+    absorb-short (a .state) (a .part .now) _ size (c .before .before .before .if1 .taken) (c .before .copy .ensures)
 
 slice-aggregate-copy-2 : tie.Need-slice-aggregate-copy-2
 slice-aggregate-copy-2 c = sym (length-take-le _ _ (c .before .if1 .left))
@@ -74,14 +75,15 @@ copy-requires-3 : tie.Need-copy-requires-3
 copy-requires-3 c κs = search needs
 
 returns-2 : tie.Need-returns-2
+unfolding addends
 returns-2 c =
-    let a = c .before .before .before .before .before .before .before .before .before .before .before .before .before .before .before .before .args in
+    let a = c .before .before .before .before .before .before .before .before .before .before .before .before .before .before .before .before .before .before .args in
     let room = 64 - a .state .count % 64 in
-    let rest = take (length (a .part .now) - room) (drop room (a .part .now)) in
+    let left = take (length (a .part .now) - room) (drop room (a .part .now)) in
     let size : length (a .state .pending) ≡ 64 = search needs in
-    absorb-long (a .state .pending) (a .part .now) (a .state .count) size (c .before .before .before .before .before .before .before .before .before .before .before .before .if1 .left) _ _ _ (a .state .words) _ _
-    (c .before .before .before .before .before .before .before .before .before .copy2 .ensures) (part-to-end _ (a .part .now)) (c .before .before .before .before .before .before .blocks2 .ensures) (c .before .before .before .before .blocks3 .ensures)
-    (c .before .copy3 .ensures ∙ ap (overlay (c .before .before .before .before .before .before .before .before .before .copy2 .last .1 .0) 0) (part-to-end (length rest / 64 * 64) rest))
+    absorb-long (a .state) (a .part .now) size (c .before .before .before .before .before .before .before .before .before .before .before .before .before .before .if1 .left) _ _ _ _ _
+    (c .before .before .before .before .before .before .before .before .before .before .before .copy2 .ensures) (part-to-end _ (a .part .now)) (c .before .before .before .before .before .before .before .blocks2 .ensures) (c .before .before .before .before .blocks3 .ensures)
+    (c .before .copy3 .ensures ∙ ap (overlay (replicate 64 0) 0) (part-to-end (length left / 64 * 64) left))
 
 pub absorb-spec : {M : Type 1} → statement M
 absorb-spec =

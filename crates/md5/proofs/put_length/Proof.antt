@@ -1,0 +1,30 @@
+-- `md5::put_length`: the bytes of the length over the last eight.
+use mathlib.Core.Path.{_≡_, ap, _∙_}
+use mathlib.Core.List.{_++_}
+use lib.ListN.{length, take}
+use Rattle.field.proofs.Laws.{overlay-length}
+use Rattle.md5.proofs.MessageLaws.{little-length, length-put}
+use borrow.Author.Needs.{needs}
+use Rattle.md5.proofs.put_length.Statement.{statement}
+use Rattle.md5.proofs.put_length.Tie as tie
+
+length-bytes-requires : tie.Need-length-bytes-requires
+length-bytes-requires c κs = search needs
+
+slice-aggregate-copy : tie.Need-slice-aggregate-copy
+slice-aggregate-copy c = search needs
+
+copy-requires : tie.Need-copy-requires
+copy-requires c κs = search needs
+
+returns : tie.Need-returns
+returns c =
+    let t = c .before .before .before .before .args .t .now in
+    let l = c .before .before .before .length-bytes in
+    let size : length t ≡ 64 = search needs in
+    let eight : length (l .result) ≡ 8 = ap length (l .ensures) ∙ little-length 8 _ in
+    (length-put t (l .result) _ size eight (c .copy .ensures) ∙ ap (λ x. take 56 t ++ x) (l .ensures), ap length (c .copy .ensures) ∙ overlay-length t 56 (l .result) ∙ size)
+
+pub put-length-spec : {M : Type 1} → statement M
+put-length-spec =
+    tie.close (tie.spec length-bytes-requires slice-aggregate-copy copy-requires returns)
