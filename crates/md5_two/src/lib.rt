@@ -1,5 +1,5 @@
-// Two blocks of RFC 1321 at once, one of each of two messages. A step waits for the step before it, but not for those of the
-// other message, so that two blocks in turn take little longer than one.
+// The first eight digest bytes of two messages at once, a block of each at a time. A step of MD5 waits for the step before it,
+// but not for those of the other message, so that two blocks in turn take little longer than one.
 use md5::FirstEight;
 use md5::eight;
 use md5::first_eight;
@@ -13,8 +13,12 @@ use md5_block::four;
 use md5_block::sum;
 use refusal::Verdict;
 ghost use mathlib.Core.Path.{_≡_};
-ghost use Prim.Native.Nat.{_+_, _<_, _≤_};
-ghost use lib.ListN.{length, drop};
+ghost use mathlib.Core.List.{_++_};
+ghost use Prim.Native.Nat.{_*_, _%_};
+ghost use lib.ListN.{length, take};
+ghost use Rattle.refusal.specs.Check.{checkOf, silent};
+ghost use Rattle.md5_block.specs.Block.{addends, whole};
+ghost use Rattle.md5.specs.Message.{initial, padding, digestOf};
 ghost use Rattle.md5_two.specs.Two as spec;
 
 // The words of two messages.
@@ -23,6 +27,13 @@ pub struct Two {
     pub second: Words,
 }
 
+// The first eight bytes of two digests.
+pub struct TwoFirstEights {
+    pub first: FirstEight,
+    pub second: FirstEight,
+}
+
+// The four steps of group g, of each message.
 fn four_two(g: usize, w: Two, x: &[u32; 16], y: &[u32; 16], k: &[u32; 64]) -> Two
     ensures { λ r. ⌜ r ≡ spec.stepsTwo (now (k .entry)) (now (x .entry)) (now (y .entry)) (g % 16 * 4) 4 w ⌝ }
 {
@@ -64,7 +75,7 @@ fn block_two(w: Two, x: &[u32; 16], y: &[u32; 16], k: &[u32; 64]) -> Two
     }
 }
 
-// The words after as many whole blocks as both messages have.
+// The words after the whole blocks of two messages of one length.
 fn blocks_two(w: Two, s: &[u8], t: &[u8], k: &[u32; 64]) -> Two
     requires { ⌜ length (now s) ≡ length (now t) ⌝ }
     ensures { λ r. ⌜ r ≡ spec.wholeTwo (now (k .entry)) (now (s .entry)) (now (t .entry)) w ⌝ }
@@ -80,14 +91,13 @@ fn blocks_two(w: Two, s: &[u8], t: &[u8], k: &[u32; 64]) -> Two
     e
 }
 
-// The first eight bytes of two digests.
-pub struct TwoFirstEights {
-    pub first: FirstEight,
-    pub second: FirstEight,
-}
-
-// Two messages of one length in whole blocks, to the end.
-fn together(a: &[u8], b: &[u8]) -> Two {
+// Two messages of one length in whole blocks, to their end: they have the same padding. Its block is hashed here and not by
+// `md5::end`: with a second call of it `block_two` stays a function by itself, which is quicker.
+fn together(a: &[u8], b: &[u8]) -> Two
+    requires { ⌜ (length (now a) ≡ length (now b)) × (length (now a) % 64 ≡ 0) ⌝ }
+    ensures { λ r. ⌜ r .first ≡ whole addends (now (a .entry) ++ padding (length (now (a .entry)))) initial ⌝ }
+    ensures { λ r. ⌜ r .second ≡ whole addends (now (b .entry) ++ padding (length (now (b .entry)))) initial ⌝ }
+{
     let k = ADDENDS;
     let start = Two {
         first: initial(),
@@ -98,21 +108,37 @@ fn together(a: &[u8], b: &[u8]) -> Two {
     block_two(e, &x, &x, &k)
 }
 
-fn passed(w: Words) -> FirstEight {
+fn one_by_one(a: &[u8], b: &[u8]) -> TwoFirstEights
+    ensures first { λ r. ⌜ spec.FirstEightOf (now (a .entry)) (r .first) ⌝ }
+    ensures second { λ r. ⌜ spec.FirstEightOf (now (b .entry)) (r .second) ⌝ }
+{
+    TwoFirstEights {
+        first: first_eight(a),
+        second: first_eight(b),
+    }
+}
+
+fn passed(w: Words) -> FirstEight
+    ensures { λ r. ⌜ (checkOf (r .verdict) ≡ silent) × (r .bytes ≡ take 8 (digestOf w)) ⌝ }
+{
     FirstEight {
         verdict: Verdict::Passed,
         bytes: eight(w),
     }
 }
 
-// The first eight bytes of the digests of two messages. Of one length in whole blocks, they are hashed together, which is quicker than one
-// after the other.
-pub fn first_eight_of_two(a: &[u8], b: &[u8]) -> TwoFirstEights {
-    if a.len() != b.len() || a.len() % 64 != 0 || !within(0, a.len() as u64) {
-        return TwoFirstEights {
-            first: first_eight(a),
-            second: first_eight(b),
-        };
+// The first eight bytes of the digests of two messages, or a refusal of each. Of one length in whole blocks they are hashed
+// together.
+pub fn first_eight_of_two(a: &[u8], b: &[u8]) -> TwoFirstEights
+    ensures first { λ r. ⌜ spec.FirstEightOf (now (a .entry)) (r .first) ⌝ }
+    ensures second { λ r. ⌜ spec.FirstEightOf (now (b .entry)) (r .second) ⌝ }
+{
+    let n = a.len();
+    if n != b.len() || n % 64 != 0 {
+        return one_by_one(a, b);
+    }
+    if !within(0, n as u64) {
+        return one_by_one(a, b);
     }
     let w = together(a, b);
     let v = w.first;
