@@ -28,6 +28,7 @@ mod pages;
 pub use layout::Layout;
 pub use layout::Page;
 pub use layout::Slot;
+pub use pages::PageHashes;
 pub use pages::page_hashes;
 
 // The most entries an index has.
