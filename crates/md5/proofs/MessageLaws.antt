@@ -3,7 +3,7 @@ use mathlib.Core.Path.{_≡_, refl, sym, ap, ap₂, _∙_}
 use mathlib.Core.Bool.{Bool, true, false, not, cond}
 use mathlib.Core.List.{List, [], _∷_, _++_, append-assoc, append-nil}
 use Prim.Native.Nat.{ℕ, zero, suc, _+_, _-_, _*_, _/_, _%_, _^_, _≤_, _<_}
-use native.Mathlib.Nat.{zero-add}
+use native.Mathlib.Nat.{zero-add, suc-add, mul-assoc, pow-suc}
 use native.Mathlib.Numerals.{add-one}
 use native.Mathlib.Omega.{arith}
 use borrow.Author.Tests.{lt-ltb, le-ltb, ltb-true, ltb-false, leb-true, leb-false}
@@ -11,35 +11,59 @@ use lib.Dec.{ltb, leb}
 use lib.ListN.{length, getD, take, drop, set, replicate, length-append, length-drop, length-replicate, take-append-drop, drop-of-length-le, replicate-append-replicate}
 use lib.Seq.{drop-drop, take-append-le, take-append-seam, drop-append-add, drop-at, take-at, set-append-seam, take-all, length-take-le, drop-cons}
 use Rattle.field.specs.Part.{overlay}
-use Rattle.field.proofs.Laws.{overlay-inside, part-to-end}
+use Rattle.field.proofs.Laws.{overlay-inside, overlay-after, part-to-end}
 use Rattle.md5_block.specs.declared.Words.{Words}
 use Rattle.md5_block.specs.Block.{addends, wordsOf, block, blocks, whole}
 use Rattle.md5_block.proofs.BlockLaws.{whole-append, whole-none, whole-one, blocks-append}
 use Rattle.md5.specs.declared.Md5.{Md5}
 use Rattle.md5.specs.Message.{littleBytes, padded, zeros, padding, rest, filled, waiting, pendingAfter, stateAfter, absorbed, finished, fresh, digestOf, initial, md5, tooLong}
 
--- a word's bytes, and those of eight times a number, by one division each
-pub word-bytes : (x : ℕ) → littleBytes 4 x ≡ x % 256 ∷ x / 256 % 256 ∷ x / 65536 % 256 ∷ x / 16777216 % 256 ∷ []
+-- a number's eight bytes, by one division each
+pub eight-bytes : (x : ℕ) → littleBytes 8 x
+    ≡ x % 256 ∷ x / 256 % 256 ∷ x / 65536 % 256 ∷ x / 16777216 % 256 ∷ x / 4294967296 % 256 ∷ x / 1099511627776 % 256 ∷ x / 281474976710656 % 256
+    ∷ x / 72057594037927936 % 256 ∷ []
 unfolding littleBytes
-word-bytes x =
-    let p : x / 256 / 256 ≡ x / 65536 = omega arith in
-    let q : x / 65536 / 256 ≡ x / 16777216 = omega arith in
-    rw (p, q)
+eight-bytes x =
+    let b : x / 256 / 256 ≡ x / 65536 = omega arith in
+    let c : x / 65536 / 256 ≡ x / 16777216 = omega arith in
+    let d : x / 16777216 / 256 ≡ x / 4294967296 = omega arith in
+    let e : x / 4294967296 / 256 ≡ x / 1099511627776 = omega arith in
+    let f : x / 1099511627776 / 256 ≡ x / 281474976710656 = omega arith in
+    let g : x / 281474976710656 / 256 ≡ x / 72057594037927936 = omega arith in
+    rw (b, c, d, e, f, g)
 
-pub bits-bytes : (n : ℕ) → littleBytes 8 (n * 8)
-    ≡ n % 32 * 8 ∷ n / 32 % 256 ∷ n / 8192 % 256 ∷ n / 2097152 % 256 ∷ n / 536870912 % 256 ∷ n / 137438953472 % 256 ∷ n / 35184372088832 % 256
-    ∷ n / 9007199254740992 % 256 ∷ []
+-- a multiple of 256 to the m changes none of m bytes, and stands after them
+module _ (m x y : ℕ) where
+  low-byte : (x + y * 256 ^ suc m) % 256 ≡ x % 256
+  low-byte = omega (arith, ap (λ p. y * p) (pow-suc 256 m) ∙ sym (mul-assoc y (256 ^ m) 256))
+
+  high-bytes : (x + y * 256 ^ suc m) / 256 ≡ x / 256 + y * 256 ^ m
+  high-bytes = omega (arith, ap (λ p. y * p) (pow-suc 256 m) ∙ sym (mul-assoc y (256 ^ m) 256))
+
+little-more : (m x y : ℕ) → littleBytes m (x + y * 256 ^ m) ≡ littleBytes m x
 unfolding littleBytes
-bits-bytes n =
-    let a : n * 8 % 256 ≡ n % 32 * 8 = omega arith in
-    let b : n * 8 / 256 ≡ n / 32 = omega arith in
-    let c : n / 32 / 256 ≡ n / 8192 = omega arith in
-    let d : n / 8192 / 256 ≡ n / 2097152 = omega arith in
-    let e : n / 2097152 / 256 ≡ n / 536870912 = omega arith in
-    let f : n / 536870912 / 256 ≡ n / 137438953472 = omega arith in
-    let g : n / 137438953472 / 256 ≡ n / 35184372088832 = omega arith in
-    let h : n / 35184372088832 / 256 ≡ n / 9007199254740992 = omega arith in
-    rw (a, b, c, d, e, f, g, h)
+little-more zero x y = refl
+little-more (suc m) x y = ap₂ (λ a l. a ∷ l) (low-byte m x y) (ap (littleBytes m) (high-bytes m x y) ∙ little-more m (x / 256) y)
+
+little-append : (m k x y : ℕ) → x < 256 ^ m → littleBytes (m + k) (x + y * 256 ^ m) ≡ littleBytes m x ++ littleBytes k y
+unfolding littleBytes
+little-append zero k x y h =
+    let e : x + y * 1 ≡ y = omega arith in
+    ap₂ littleBytes (zero-add k) e
+little-append (suc m) k x y h =
+    let fits : x / 256 < 256 ^ m = omega (arith, pow-suc 256 m) in
+    ap (λ i. littleBytes i (x + y * 256 ^ suc m)) (suc-add m k)
+    ∙ ap₂ (λ a l. a ∷ l) (low-byte m x y) (ap (littleBytes (m + k)) (high-bytes m x y) ∙ little-append m k (x / 256) y fits)
+
+-- the number of bits, modulo 2^64
+pub bits-modulo : (n : ℕ) → littleBytes 8 (n % 2305843009213693952 * 8) ≡ littleBytes 8 (n * 8)
+bits-modulo n =
+    let e : n % 2305843009213693952 * 8 + n / 2305843009213693952 * 256 ^ 8 ≡ n * 8 = omega arith in
+    sym (little-more 8 (n % 2305843009213693952 * 8) (n / 2305843009213693952)) ∙ ap (littleBytes 8) e
+
+-- two words as one number
+pub two-words : (a b : ℕ) → a < 4294967296 → littleBytes 8 (a + b * 4294967296) ≡ littleBytes 4 a ++ littleBytes 4 b
+two-words a b h = little-append 4 4 a b h
 
 pub little-length : (n x : ℕ) → length (littleBytes n x) ≡ n
 unfolding littleBytes
@@ -59,6 +83,15 @@ over-replicate n p h =
 
 pub over-zeros : (p : List ℕ) → length p ≤ 64 → overlay (replicate 64 0) 0 p ≡ filled p
 over-zeros p h = over-replicate 64 p h
+
+-- two parts of eight bytes
+pub digest-laid : (l h d e : List ℕ) → length l ≡ 8 → length h ≡ 8 → d ≡ overlay (replicate 16 0) 0 l → e ≡ overlay d 8 h → e ≡ l ++ h
+digest-laid l h d e p q f g =
+    let sixteen : length (l ++ h) ≡ 16 = rw length-append (omega arith) in
+    let fits : length (l ++ h) ≤ 16 = omega arith in
+    let at : 8 ≡ 0 + length l = omega arith in
+    g ∙ ap₂ (λ x i. overlay x i h) f at ∙ overlay-after (replicate 16 0) 0 l h ∙ over-replicate 16 (l ++ h) fits
+    ∙ ap (λ k. l ++ h ++ replicate (16 - k) 0) sixteen ∙ append-nil (l ++ h)
 
 -- the last eight bytes of a block
 pub length-put : (t l new : List ℕ) → length t ≡ 64 → length l ≡ 8 → new ≡ overlay t 56 l → new ≡ take 56 t ++ l

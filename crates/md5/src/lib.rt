@@ -14,6 +14,7 @@ ghost use mathlib.Core.List.{_++_, _∷_};
 ghost use Prim.Native.Nat.{_+_, _-_, _*_, _%_, _^_, _≤_, _<_};
 ghost use lib.ListN.{length, take, replicate};
 ghost use Rattle.refusal.specs.Check.{checkOf};
+ghost use Rattle.field.specs.Part.{overlay};
 ghost use Rattle.md5_block.specs.Block.{addends, wordsOf, whole};
 ghost use Rattle.md5.specs.Message as spec;
 ghost use Rattle.md5.specs.Cutting.{Updates};
@@ -66,29 +67,38 @@ pub fn initial() -> Words
     }
 }
 
-// Eight times the number of bytes, modulo 2^64, the lowest byte first.
-fn length_bytes(count: u64) -> [u8; 8]
-    ensures { λ r. ⌜ r ≡ spec.littleBytes 8 (count * 8) ⌝ }
+// The eight bytes of a number, the lowest first.
+fn little(x: u64) -> [u8; 8]
+    ensures { λ r. ⌜ r ≡ spec.littleBytes 8 x ⌝ }
 {
     [
-        (count % 32 * 8) as u8,
-        (count / 32 % 256) as u8,
-        (count / 8192 % 256) as u8,
-        (count / 2_097_152 % 256) as u8,
-        (count / 536_870_912 % 256) as u8,
-        (count / 137_438_953_472 % 256) as u8,
-        (count / 35_184_372_088_832 % 256) as u8,
-        (count / 9_007_199_254_740_992 % 256) as u8,
+        (x % 256) as u8,
+        (x / 256 % 256) as u8,
+        (x / 65_536 % 256) as u8,
+        (x / 16_777_216 % 256) as u8,
+        (x / 4_294_967_296 % 256) as u8,
+        (x / 1_099_511_627_776 % 256) as u8,
+        (x / 281_474_976_710_656 % 256) as u8,
+        (x / 72_057_594_037_927_936 % 256) as u8,
     ]
 }
 
-// Puts a message's length into the last eight bytes of a block.
+// Puts a message's length into the last eight bytes of a block: eight times the number of bytes, modulo 2^64.
 fn put_length(t: &mut [u8; 64], count: u64)
     ensures { λ _. ⌜ now (t .exit) ≡ take 56 (now (t .entry)) ++ spec.littleBytes 8 (count * 8) ⌝ }
     ensures { λ _. ⌜ length (now (t .exit)) ≡ 64 ⌝ }
 {
-    let length = length_bytes(count);
+    let length = little(count % 2_305_843_009_213_693_952 * 8);
     copy(&length, t, 56);
+}
+
+// Lays the bytes after the whole blocks of s at the start of a block.
+fn lay_rest(s: &[u8], t: &mut [u8; 64])
+    ensures { λ _. ⌜ now (t .exit) ≡ overlay (now (t .entry)) 0 (spec.rest (now (s .entry))) ⌝ }
+    ensures { λ _. ⌜ length (now (t .exit)) ≡ 64 ⌝ }
+{
+    let n = s.len() % 64;
+    copy(&s[s.len() - n..], t, 0);
 }
 
 // The words of a block of one byte, zeros and a message's length. With 128 it is the padding after whole blocks, with 0 what is
@@ -110,7 +120,7 @@ pub fn end(w: Words, s: &[u8], count: u64) -> Words
     let k = ADDENDS;
     let n = s.len() % 64;
     let mut t = [0u8; 64];
-    copy(&s[s.len() - n..], &mut t, 0);
+    lay_rest(s, &mut t);
     t[n] = 128;
     let e = blocks(w, s, &k);
     if n < 56 {
@@ -124,60 +134,77 @@ pub fn end(w: Words, s: &[u8], count: u64) -> Words
     block(f, &y, &k)
 }
 
+// Two words as one number.
+fn pair(a: u32, b: u32) -> u64
+    ensures { λ r. ⌜ r ≡ a + b * 2 ^ 32 ⌝ }
+{
+    a as u64 + b as u64 * 4_294_967_296
+}
+
+// The first eight bytes of the digest that the words are.
+pub fn eight(w: Words) -> [u8; 8]
+    ensures { λ r. ⌜ r ≡ take 8 (spec.digestOf w) ⌝ }
+{
+    little(pair(w.a, w.b))
+}
+
 fn bytes(w: Words) -> [u8; 16]
     ensures { λ r. ⌜ r ≡ spec.digestOf w ⌝ }
 {
-    [
-        (w.a % 256) as u8,
-        (w.a / 256 % 256) as u8,
-        (w.a / 65536 % 256) as u8,
-        (w.a / 16777216 % 256) as u8,
-        (w.b % 256) as u8,
-        (w.b / 256 % 256) as u8,
-        (w.b / 65536 % 256) as u8,
-        (w.b / 16777216 % 256) as u8,
-        (w.c % 256) as u8,
-        (w.c / 256 % 256) as u8,
-        (w.c / 65536 % 256) as u8,
-        (w.c / 16777216 % 256) as u8,
-        (w.d % 256) as u8,
-        (w.d / 256 % 256) as u8,
-        (w.d / 65536 % 256) as u8,
-        (w.d / 16777216 % 256) as u8,
-    ]
+    let low = little(pair(w.a, w.b));
+    let high = little(pair(w.c, w.d));
+    let mut d = [0u8; 16];
+    copy(&low, &mut d, 0);
+    copy(&high, &mut d, 8);
+    d
+}
+
+// A part that does not fill the block of the waiting bytes.
+fn join(state: Md5, part: &[u8]) -> Md5
+    requires { ⌜ (state .count + length (now part) ≤ 2 ^ 48) × (length (now part) < 64 - state .count % 64) ⌝ }
+    ensures { λ r. ⌜ r ≡ spec.absorbed state (now (part .entry)) ⌝ }
+{
+    let count = state.count;
+    let words = state.words;
+    let mut pending = state.pending;
+    copy(part, &mut pending, (count % 64) as usize);
+    Md5 {
+        words,
+        pending,
+        count: count + part.len() as u64,
+    }
+}
+
+// A part that fills it.
+fn fill(state: Md5, part: &[u8]) -> Md5
+    requires { ⌜ (state .count + length (now part) ≤ 2 ^ 48) × (64 - state .count % 64 ≤ length (now part)) ⌝ }
+    ensures { λ r. ⌜ r ≡ spec.absorbed state (now (part .entry)) ⌝ }
+{
+    let k = ADDENDS;
+    let n = (state.count % 64) as usize;
+    let room = 64 - n;
+    let mut filled = state.pending;
+    copy(&part[..room], &mut filled, n);
+    let rest = &part[room..];
+    let words = blocks(blocks(state.words, &filled, &k), rest, &k);
+    let mut pending = [0u8; 64];
+    lay_rest(rest, &mut pending);
+    Md5 {
+        words,
+        pending,
+        count: state.count + part.len() as u64,
+    }
 }
 
 fn absorb(state: Md5, part: &[u8]) -> Md5
     requires { ⌜ state .count + length (now part) ≤ 2 ^ 48 ⌝ }
     ensures { λ r. ⌜ r ≡ spec.absorbed state (now (part .entry)) ⌝ }
 {
-    let count = state.count;
-    let total = count + part.len() as u64;
-    let n = (count % 64) as usize;
-    let room = 64 - n;
-    let mut pending = state.pending;
-    let w = state.words;
+    let room = 64 - (state.count % 64) as usize;
     if part.len() < room {
-        copy(part, &mut pending, n);
-        return Md5 {
-            words: w,
-            pending,
-            count: total,
-        };
+        return join(state, part);
     }
-    let k = ADDENDS;
-    copy(&part[..room], &mut pending, n);
-    let filled = blocks(w, &pending, &k);
-    let rest = &part[room..];
-    let words = blocks(filled, rest, &k);
-    let whole = rest.len() / 64 * 64;
-    let mut waiting = [0u8; 64];
-    copy(&rest[whole..], &mut waiting, 0);
-    Md5 {
-        words,
-        pending: waiting,
-        count: total,
-    }
+    fill(state, part)
 }
 
 impl Md5 {
@@ -234,14 +261,6 @@ pub fn digest(message: &[u8]) -> Hashed
         verdict: Verdict::Passed,
         bytes: bytes(end(initial(), message, n)),
     }
-}
-
-// The first eight bytes of the digest that the words are.
-pub fn eight(w: Words) -> [u8; 8]
-    ensures { λ r. ⌜ r ≡ take 8 (spec.digestOf w) ⌝ }
-{
-    let b = bytes(w);
-    [b[0], b[1], b[2], b[3], b[4], b[5], b[6], b[7]]
 }
 
 // The first eight bytes of the digest of bytes that are all at hand.

@@ -1,82 +1,69 @@
--- `md5::bytes`: the four words, the lowest byte first.
-use Rattle.md5.specs.Message.{digestOf}
-use Rattle.md5.proofs.MessageLaws.{word-bytes}
+-- `md5::bytes`: the bytes of a and b, and those of c and d.
+use mathlib.Core.Path.{_≡_, sym, ap, ap₂, _∙_}
+use mathlib.Core.List.{_++_, append-assoc}
+use Prim.Native.Nat.{_<_}
+use native.Mathlib.Omega.{arith}
+use lib.ListN.{length}
+use Rattle.md5.specs.Message.{littleBytes, digestOf}
+use Rattle.md5.proofs.MessageLaws.{little-length, two-words, digest-laid}
 use borrow.Author.Needs.{needs}
 use Rattle.md5.proofs.bytes.Statement.{statement}
 use Rattle.md5.proofs.bytes.Tie as tie
 
-cast-t3 : tie.Need-cast-t3
-cast-t3 c = search needs
+pair-requires : tie.Need-pair-requires
+pair-requires c κs = search needs
 
-cast-t6 : tie.Need-cast-t6
-cast-t6 c = search needs
+little-requires : tie.Need-little-requires
+little-requires c κs = search needs
 
-cast-t9 : tie.Need-cast-t9
-cast-t9 c = search needs
+pair-requires-2 : tie.Need-pair-requires-2
+pair-requires-2 c κs = search needs
 
-cast-t12 : tie.Need-cast-t12
-cast-t12 c = search needs
+little-requires-2 : tie.Need-little-requires-2
+little-requires-2 c κs = search needs
 
-cast-t14 : tie.Need-cast-t14
-cast-t14 c = search needs
+slice-aggregate-copy : tie.Need-slice-aggregate-copy
+slice-aggregate-copy c = search needs
 
-cast-t17 : tie.Need-cast-t17
-cast-t17 c = search needs
+slice-aggregate-copy-2 : tie.Need-slice-aggregate-copy-2
+slice-aggregate-copy-2 c = search needs
 
-cast-t20 : tie.Need-cast-t20
-cast-t20 c = search needs
+copy-requires : tie.Need-copy-requires
+copy-requires c κs = search needs
 
-cast-t23 : tie.Need-cast-t23
-cast-t23 c = search needs
+slice-aggregate-copy-3 : tie.Need-slice-aggregate-copy-3
+slice-aggregate-copy-3 c = search needs
 
-cast-t25 : tie.Need-cast-t25
-cast-t25 c = search needs
+slice-aggregate-copy-4 : tie.Need-slice-aggregate-copy-4
+slice-aggregate-copy-4 c = search needs
 
-cast-t28 : tie.Need-cast-t28
-cast-t28 c = search needs
-
-cast-t31 : tie.Need-cast-t31
-cast-t31 c = search needs
-
-cast-t34 : tie.Need-cast-t34
-cast-t34 c = search needs
-
-cast-t36 : tie.Need-cast-t36
-cast-t36 c = search needs
-
-cast-t39 : tie.Need-cast-t39
-cast-t39 c = search needs
-
-cast-t42 : tie.Need-cast-t42
-cast-t42 c = search needs
-
-cast-t45 : tie.Need-cast-t45
-cast-t45 c = search needs
+copy-requires-2 : tie.Need-copy-requires-2
+copy-requires-2 c κs = search needs
 
 returns : tie.Need-returns
 unfolding digestOf
 returns c =
-    let w = c .before .before .before .before .before .before .before .before .before .before .before .before .before .before .before .before .args .w in
-    rw (word-bytes (w .a), word-bytes (w .b), word-bytes (w .c), word-bytes (w .d))
+    let w = c .before .before .before .before .before .before .before .before .before .before .before .before .args .w in
+    let fits : (w .a < 4294967296) × (w .c < 4294967296) = (omega arith, omega arith) in
+    let l = c .before .before .before .before .before .before .before .before .before .before .little in
+    let h = c .before .before .before .before .before .before .before .before .little2 in
+    let low = l .ensures ∙ ap (littleBytes 8) (c .before .before .before .before .before .before .before .before .before .before .before .pair .ensures) ∙ two-words (w .a) (w .b) (fits .0) in
+    let high = h .ensures ∙ ap (littleBytes 8) (c .before .before .before .before .before .before .before .before .before .pair2 .ensures) ∙ two-words (w .c) (w .d) (fits .1) in
+    digest-laid (l .result) (h .result) _ _ (ap length (l .ensures) ∙ little-length 8 _) (ap length (h .ensures) ∙ little-length 8 _) (c .before .before .before .before .before .copy .ensures) (c .before .copy2 .ensures)
+    ∙ ap₂ (λ x y. x ++ y) low high ∙ sym (append-assoc (littleBytes 4 (w .a) ++ littleBytes 4 (w .b)) (littleBytes 4 (w .c)) (littleBytes 4 (w .d)))
 
 pub bytes-spec : {M : Type 1} → statement M
 bytes-spec =
     tie.close
     (tie.spec
-    cast-t3
-    cast-t6
-    cast-t9
-    cast-t12
-    cast-t14
-    cast-t17
-    cast-t20
-    cast-t23
-    cast-t25
-    cast-t28
-    cast-t31
-    cast-t34
-    cast-t36
-    cast-t39
-    cast-t42
-    cast-t45
+    pair-requires
+    little-requires
+    pair-requires-2
+    little-requires-2
+    slice-aggregate-copy
+    slice-aggregate-copy-2
+    copy-requires
+    slice-aggregate-copy-3
+    slice-aggregate-copy-4
+    copy-requires-2
     returns)

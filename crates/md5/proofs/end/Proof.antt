@@ -1,33 +1,17 @@
 -- `md5::end`: one block after the whole ones or two, by the room that is left for the length.
-use mathlib.Core.Path.{_≡_, refl, ap, _∙_}
+use mathlib.Core.Path.{_≡_, refl}
 use Prim.Native.Nat.{_%_, _<_}
 use native.Mathlib.Omega.{arith}
-use lib.ListN.{length, replicate}
-use Rattle.field.specs.Part.{overlay}
+use lib.ListN.{length}
 use Rattle.md5_block.specs.Block.{addends}
 use Rattle.md5.specs.Message.{rest}
-use Rattle.md5.proofs.MessageLaws.{rest-length, last-part, marked, end-one, end-two}
+use Rattle.md5.proofs.MessageLaws.{rest-length, marked, end-one, end-two}
 use borrow.Author.Needs.{needs}
 use Rattle.md5.proofs.end.Statement.{statement}
 use Rattle.md5.proofs.end.Tie as tie
 
-sub-copy : tie.Need-sub-copy
-sub-copy c = search needs
-
-sub-copy-2 : tie.Need-sub-copy-2
-sub-copy-2 c = search needs
-
-part-copy-start : tie.Need-part-copy-start
-part-copy-start c = search needs
-
-part-copy-end : tie.Need-part-copy-end
-part-copy-end c = search needs
-
-slice-aggregate-copy : tie.Need-slice-aggregate-copy
-slice-aggregate-copy c = search needs
-
-copy-requires : tie.Need-copy-requires
-copy-requires c κs = search needs
+lay-rest-requires : tie.Need-lay-rest-requires
+lay-rest-requires c κs = search needs
 
 array-write-t : tie.Need-array-write-t
 array-write-t c = search needs
@@ -50,10 +34,10 @@ block-requires c κs = search needs
 returns : tie.Need-returns
 unfolding addends
 returns c =
-    let a = c .before .before .before .before .before .before .before .before .before .before .before .before .before .before .before .args in
+    let a = c .before .before .before .before .before .before .before .before .before .before .before .before .before .args in
     let s = a .s .now in
     let below : length s % 64 < 64 = omega arith in
-    let t = marked (rest s) _ _ (length s % 64) (rest-length s) below (c .before .before .before .before .before .before .before .before .before .before .before .copy .ensures ∙ ap (overlay (replicate 64 0) 0) (last-part s)) refl in
+    let t = marked (rest s) _ _ (length s % 64) (rest-length s) below (c .before .before .before .before .before .before .before .before .before .before .lay-rest .ensures .0) refl in
     end-one s _ _ _ (a .count) (length s % 64) (a .w) _ _ refl (c .before .before .before .before .before .before .before .if1 .taken) t (c .before .before .before .before .before .put-length .ensures .0) (c .before .before .before .block-words .ensures) (c .before .before .before .before .before .before .before .before .blocks2 .ensures) (c .block .ensures)
 
 slice-aggregate-block-words-2 : tie.Need-slice-aggregate-block-words-2
@@ -74,22 +58,17 @@ block-requires-3 c κs = search needs
 returns-2 : tie.Need-returns-2
 unfolding addends
 returns-2 c =
-    let a = c .before .before .before .before .before .before .before .before .before .before .before .before .before .before .before .before .before .args in
+    let a = c .before .before .before .before .before .before .before .before .before .before .before .before .before .before .before .args in
     let s = a .s .now in
     let below : length s % 64 < 64 = omega arith in
-    let t = marked (rest s) _ _ (length s % 64) (rest-length s) below (c .before .before .before .before .before .before .before .before .before .before .before .before .before .copy .ensures ∙ ap (overlay (replicate 64 0) 0) (last-part s)) refl in
+    let t = marked (rest s) _ _ (length s % 64) (rest-length s) below (c .before .before .before .before .before .before .before .before .before .before .before .before .lay-rest .ensures .0) refl in
     end-two s _ _ _ (a .count) (length s % 64) (a .w) _ _ _ refl (c .before .before .before .before .before .before .before .before .before .if1 .left) t (c .before .before .before .before .before .before .before .block-words2 .ensures) (c .before .before .before .last-words .ensures) (c .before .before .before .before .before .before .before .before .before .before .blocks2 .ensures) (c .before .before .before .before .block2 .ensures) (c .block3 .ensures)
 
 pub end-spec : {M : Type 1} → statement M
 end-spec =
     tie.close
     (tie.spec
-    sub-copy
-    sub-copy-2
-    part-copy-start
-    part-copy-end
-    slice-aggregate-copy
-    copy-requires
+    lay-rest-requires
     array-write-t
     blocks-requires
     put-length-requires

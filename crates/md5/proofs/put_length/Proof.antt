@@ -3,13 +3,16 @@ use mathlib.Core.Path.{_≡_, ap, _∙_}
 use mathlib.Core.List.{_++_}
 use lib.ListN.{length, take}
 use Rattle.field.proofs.Laws.{overlay-length}
-use Rattle.md5.proofs.MessageLaws.{little-length, length-put}
+use Rattle.md5.proofs.MessageLaws.{little-length, bits-modulo, length-put}
 use borrow.Author.Needs.{needs}
 use Rattle.md5.proofs.put_length.Statement.{statement}
 use Rattle.md5.proofs.put_length.Tie as tie
 
-length-bytes-requires : tie.Need-length-bytes-requires
-length-bytes-requires c κs = search needs
+mul-little : tie.Need-mul-little
+mul-little c = search needs
+
+little-requires : tie.Need-little-requires
+little-requires c κs = search needs
 
 slice-aggregate-copy : tie.Need-slice-aggregate-copy
 slice-aggregate-copy c = search needs
@@ -20,11 +23,11 @@ copy-requires c κs = search needs
 returns : tie.Need-returns
 returns c =
     let t = c .before .before .before .before .args .t .now in
-    let l = c .before .before .before .length-bytes in
+    let l = c .before .before .before .little in
     let size : length t ≡ 64 = search needs in
     let eight : length (l .result) ≡ 8 = ap length (l .ensures) ∙ little-length 8 _ in
-    (length-put t (l .result) _ size eight (c .copy .ensures) ∙ ap (λ x. take 56 t ++ x) (l .ensures), ap length (c .copy .ensures) ∙ overlay-length t 56 (l .result) ∙ size)
+    (length-put t (l .result) _ size eight (c .copy .ensures) ∙ ap (λ x. take 56 t ++ x) (l .ensures ∙ bits-modulo _), ap length (c .copy .ensures) ∙ overlay-length t 56 (l .result) ∙ size)
 
 pub put-length-spec : {M : Type 1} → statement M
 put-length-spec =
-    tie.close (tie.spec length-bytes-requires slice-aggregate-copy copy-requires returns)
+    tie.close (tie.spec mul-little little-requires slice-aggregate-copy copy-requires returns)
