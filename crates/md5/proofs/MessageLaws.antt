@@ -16,7 +16,7 @@ use Rattle.md5_block.specs.declared.Words.{Words}
 use Rattle.md5_block.specs.Block.{addends, wordsOf, block, blocks, whole}
 use Rattle.md5_block.proofs.BlockLaws.{whole-append, whole-none, whole-one, blocks-append}
 use Rattle.md5.specs.declared.Md5.{Md5}
-use Rattle.md5.specs.Message.{littleBytes, padded, zeros, padding, rest, filled, waiting, pendingAfter, stateAfter, absorbed, finished, fresh, digestOf, initial, md5, tooLong}
+use Rattle.md5.specs.Message.{littleBytes, padded, zeros, padding, rest, filled, waiting, pendingAfter, stateAfter, absorbed, finished, fresh, digestOf, initial, md5, tooLong, digestOr0}
 
 -- a number's eight bytes, by one division each
 pub eight-bytes : (x : ℕ) → littleBytes 8 x
@@ -178,20 +178,20 @@ end-one s t u x c n w e r m h p q f g b =
     ∙ sym (whole-rest addends s (padded (zeros (length s)) c) w)
 
 -- or two
-pub end-two : (s t x y : List ℕ) (c n : ℕ) (w e f r : Words) → n ≡ length s % 64 → 56 ≤ n → t ≡ rest s ++ (128 ∷ replicate (63 - n) 0)
-    → x ≡ wordsOf 16 t → y ≡ wordsOf 16 (replicate 56 0 ++ littleBytes 8 (c * 8)) → e ≡ whole addends s w → f ≡ block addends x e → r ≡ block addends y f
+pub end-two : (s t : List ℕ) (c n : ℕ) (w e r : Words) → n ≡ length s % 64 → 56 ≤ n → t ≡ rest s ++ (128 ∷ replicate (63 - n) 0) → e ≡ whole addends s w
+    → r ≡ block addends (wordsOf 16 (replicate 56 0 ++ littleBytes 8 (c * 8))) (block addends (wordsOf 16 t) e)
     → r ≡ whole addends (s ++ padded (zeros (length s)) c) w
-end-two s t x y c n w e f r m h p q q′ g b b′ =
+end-two s t c n w e r m h p g b =
     let l : List ℕ = littleBytes 8 (c * 8) in
     let v : Words = whole addends s w in
     let u : List ℕ = replicate 56 0 ++ l in
     let z : 63 - n + 56 ≡ zeros (length s) = omega arith in
     let len : length (rest s) ≡ n = rest-length s ∙ sym m in
     let size : length t ≡ 64 = ap length p ∙ simp (length-append, length-replicate) (omega arith) in
-    let one : f ≡ blocks addends 1 t v = b ∙ ap₂ (block addends) q g ∙ sym (whole-one addends t v size) ∙ ap (λ k. blocks addends (k / 64) t v) size in
+    let one : block addends (wordsOf 16 t) e ≡ blocks addends 1 t v = ap (block addends (wordsOf 16 t)) g ∙ sym (whole-one addends t v size) ∙ ap (λ k. blocks addends (k / 64) t v) size in
     let is : t ++ u ≡ rest s ++ padded (zeros (length s)) c = ap (λ k. k ++ u) p ∙ without-length (rest s) l n len 56 ∙ ap (λ k. rest s ++ padded k c) z in
-    let last : length u ≡ 64 = simp (length-append, length-replicate, little-length) in
-    b′ ∙ ap₂ (block addends) q′ one ∙ sym (whole-one addends u _ last) ∙ sym (whole-append addends 1 t u v size) ∙ ap (λ k. whole addends k v) is
+    let last : length u ≡ 64 = simp little-length in
+    b ∙ ap (block addends (wordsOf 16 u)) one ∙ sym (whole-one addends u _ last) ∙ sym (whole-append addends 1 t u v size) ∙ ap (λ k. whole addends k v) is
     ∙ sym (whole-rest addends s (padded (zeros (length s)) c) w)
 
 -- the slice that `end` takes for the rest
@@ -278,6 +278,12 @@ limit-left count n h = go (leb n (2 ^ 48 - count)) refl
     go : (b : Bool) → leb n (2 ^ 48 - count) ≡ b → tooLong (count + n) ≡ not b
     go true e = le-ltb (2 ^ 48) (count + n) (omega (arith, leb-true n (2 ^ 48 - count) e))
     go false e = over count n (omega (arith, leb-false n (2 ^ 48 - count) e))
+
+-- what is told of a message within the limit: its digest, or a part of it
+pub digest-told : (f : List ℕ → List ℕ) (m bytes : List ℕ) (w : Words) → tooLong (length m) ≡ false → w ≡ whole addends (m ++ padding (length m)) initial
+    → bytes ≡ f (digestOf w) → bytes ≡ f (digestOr0 m)
+unfolding md5
+digest-told f m bytes w e p q = q ∙ ap (λ v. f (digestOf v)) p ∙ ap (λ b. f (cond b (replicate 16 0) (md5 m))) (sym e)
 
 -- n bytes of a list from i on, one by one
 abbrev bytesFrom : ℕ → ℕ → List ℕ → List ℕ

@@ -15,7 +15,7 @@ ghost use Prim.Native.Nat.{_+_, _-_, _*_, _%_, _^_, _≤_, _<_};
 ghost use lib.ListN.{length, take, replicate};
 ghost use Rattle.refusal.specs.Check.{checkOf};
 ghost use Rattle.field.specs.Part.{overlay};
-ghost use Rattle.md5_block.specs.Block.{addends, wordsOf, whole};
+ghost use Rattle.md5_block.specs.Block.{addends, wordsOf, block, whole};
 ghost use Rattle.md5.specs.Message as spec;
 ghost use Rattle.md5.specs.Cutting.{Updates};
 
@@ -101,8 +101,7 @@ fn lay_rest(s: &[u8], t: &mut [u8; 64])
     copy(&s[s.len() - n..], t, 0);
 }
 
-// The words of a block of one byte, zeros and a message's length. With 128 it is the padding after whole blocks, with 0 what is
-// left of the padding where the length had no room in the block of the set bit.
+// The words of a block of one byte, zeros and a message's length: with 128 the padding after whole blocks.
 pub fn last_words(first: u8, count: u64) -> [u32; 16]
     ensures { λ r. ⌜ r ≡ wordsOf 16 (first ∷ replicate 55 0 ++ spec.littleBytes 8 (count * 8)) ⌝ }
 {
@@ -110,6 +109,16 @@ pub fn last_words(first: u8, count: u64) -> [u32; 16]
     t[0] = first;
     put_length(&mut t, count);
     block_words(&t)
+}
+
+// The words after a block in which the length has no room, and the block of the length.
+fn last_two(w: Words, t: &[u8; 64], count: u64, k: &[u32; 64]) -> Words
+    ensures { λ r. ⌜ r ≡ block (now (k .entry)) (wordsOf 16 (replicate 56 0 ++ spec.littleBytes 8 (count * 8))) (block (now (k .entry)) (wordsOf 16 (now (t .entry))) w) ⌝ }
+{
+    let x = block_words(t);
+    let e = block(w, &x, k);
+    let y = last_words(0, count);
+    block(e, &y, k)
 }
 
 // The words after the end of a message of `count` bytes: the whole blocks of s, the rest of s and the padding. The rest is
@@ -128,10 +137,7 @@ pub fn end(w: Words, s: &[u8], count: u64) -> Words
         let x = block_words(&t);
         return block(e, &x, &k);
     }
-    let x = block_words(&t);
-    let f = block(e, &x, &k);
-    let y = last_words(0, count);
-    block(f, &y, &k)
+    last_two(e, &t, count, &k)
 }
 
 // Two words as one number.
@@ -245,13 +251,19 @@ impl Md5 {
     }
 }
 
+// The words after a message and its padding.
+fn words_after(message: &[u8]) -> Words
+    ensures { λ r. ⌜ r ≡ whole addends (now (message .entry) ++ spec.padding (length (now (message .entry)))) spec.initial ⌝ }
+{
+    end(initial(), message, message.len() as u64)
+}
+
 // The digest of bytes that are all at hand.
 pub fn digest(message: &[u8]) -> Hashed
     ensures verdict { λ r. ⌜ checkOf (r .verdict) ≡ spec.limited (length (now (message .entry))) ⌝ }
     ensures bytes { λ r. ⌜ r .bytes ≡ spec.digestOr0 (now (message .entry)) ⌝ }
 {
-    let n = message.len() as u64;
-    if !within(0, n) {
+    if !within(0, message.len() as u64) {
         return Hashed {
             verdict: refuse(HASH_LIMIT, 0),
             bytes: [0u8; 16],
@@ -259,7 +271,7 @@ pub fn digest(message: &[u8]) -> Hashed
     }
     Hashed {
         verdict: Verdict::Passed,
-        bytes: bytes(end(initial(), message, n)),
+        bytes: bytes(words_after(message)),
     }
 }
 
@@ -268,11 +280,14 @@ pub fn first_eight(message: &[u8]) -> FirstEight
     ensures verdict { λ r. ⌜ checkOf (r .verdict) ≡ spec.limited (length (now (message .entry))) ⌝ }
     ensures bytes { λ r. ⌜ r .bytes ≡ take 8 (spec.digestOr0 (now (message .entry))) ⌝ }
 {
-    let d = digest(message);
-    let b = d.bytes;
-    let verdict = d.verdict;
+    if !within(0, message.len() as u64) {
+        return FirstEight {
+            verdict: refuse(HASH_LIMIT, 0),
+            bytes: [0u8; 8],
+        };
+    }
     FirstEight {
-        verdict,
-        bytes: [b[0], b[1], b[2], b[3], b[4], b[5], b[6], b[7]],
+        verdict: Verdict::Passed,
+        bytes: eight(words_after(message)),
     }
 }

@@ -40,29 +40,17 @@ returns c =
     let t = marked (rest s) _ _ (length s % 64) (rest-length s) below (c .before .before .before .before .before .before .before .before .before .before .lay-rest .ensures .0) refl in
     end-one s _ _ _ (a .count) (length s % 64) (a .w) _ _ refl (c .before .before .before .before .before .before .before .if1 .taken) t (c .before .before .before .before .before .put-length .ensures .0) (c .before .before .before .block-words .ensures) (c .before .before .before .before .before .before .before .before .blocks2 .ensures) (c .block .ensures)
 
-slice-aggregate-block-words-2 : tie.Need-slice-aggregate-block-words-2
-slice-aggregate-block-words-2 c = search needs
-
-block-words-requires-2 : tie.Need-block-words-requires-2
-block-words-requires-2 c κs = search needs
-
-block-requires-2 : tie.Need-block-requires-2
-block-requires-2 c κs = search needs
-
-last-words-requires : tie.Need-last-words-requires
-last-words-requires c κs = search needs
-
-block-requires-3 : tie.Need-block-requires-3
-block-requires-3 c κs = search needs
+last-two-requires : tie.Need-last-two-requires
+last-two-requires c κs = search needs
 
 returns-2 : tie.Need-returns-2
 unfolding addends
 returns-2 c =
-    let a = c .before .before .before .before .before .before .before .before .before .before .before .before .before .before .before .args in
+    let a = c .before .before .before .before .before .before .before .before .before .args in
     let s = a .s .now in
     let below : length s % 64 < 64 = omega arith in
-    let t = marked (rest s) _ _ (length s % 64) (rest-length s) below (c .before .before .before .before .before .before .before .before .before .before .before .before .lay-rest .ensures .0) refl in
-    end-two s _ _ _ (a .count) (length s % 64) (a .w) _ _ _ refl (c .before .before .before .before .before .before .before .before .before .if1 .left) t (c .before .before .before .before .before .before .before .block-words2 .ensures) (c .before .before .before .last-words .ensures) (c .before .before .before .before .before .before .before .before .before .before .blocks2 .ensures) (c .before .before .before .before .block2 .ensures) (c .block3 .ensures)
+    let t = marked (rest s) _ _ (length s % 64) (rest-length s) below (c .before .before .before .before .before .before .lay-rest .ensures .0) refl in
+    end-two s _ (a .count) (length s % 64) (a .w) _ _ refl (c .before .before .before .if1 .left) t (c .before .before .before .before .blocks2 .ensures) (c .last-two .ensures)
 
 pub end-spec : {M : Type 1} → statement M
 end-spec =
@@ -76,9 +64,5 @@ end-spec =
     block-words-requires
     block-requires
     returns
-    slice-aggregate-block-words-2
-    block-words-requires-2
-    block-requires-2
-    last-words-requires
-    block-requires-3
+    last-two-requires
     returns-2)
