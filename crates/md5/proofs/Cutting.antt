@@ -15,9 +15,11 @@ use Rattle.refusal.specs.Number.{hash-limit}
 use Rattle.md5_block.specs.Block.{addends, blocks, whole}
 use Rattle.md5.specs.declared.Md5.{Md5}
 use Rattle.md5.specs.declared.Updated.{Updated}
-use Rattle.md5.specs.Message.{padding, rest, filled, waiting, stateAfter, absorbed, finished, fresh, digestOf, initial, md5, tooLong}
+use Rattle.md5.specs.Message.{padding, waiting, stateAfter, absorbed, finished, fresh, digestOf, initial, md5, tooLong}
 use Rattle.md5.specs.Cutting.{Updates, Run, done, next, AllPassed, none, more, joined, Cut, AnyCutting}
-use Rattle.md5.proofs.MessageLaws.{rest-length, whole-rest, rest-append, state-is}
+use Rattle.md5_end.specs.End.{rest, filled}
+use Rattle.md5_end.proofs.EndLaws.{rest-length, whole-rest, rest-append}
+use Rattle.md5.proofs.MessageLaws.{state-is}
 
 -- the bytes that wait in the state of some bytes
 pub state-waiting : (m : List ℕ) → waiting (stateAfter m) ≡ rest m

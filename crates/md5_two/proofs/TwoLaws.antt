@@ -10,8 +10,9 @@ use Rattle.md5_block.specs.declared.Words.{Words}
 use Rattle.md5_block.specs.Block.{addends, steps, wordsOf, sum, block, blocks, whole}
 use Rattle.md5_block.proofs.BlockLaws.{all-steps, block-is, whole-one}
 use Rattle.md5.specs.declared.FirstEight.{FirstEight}
-use Rattle.md5.specs.Message.{initial, littleBytes, padded, padding, rest, digestOf, md5, tooLong}
-use Rattle.md5.proofs.MessageLaws.{little-length, whole-rest}
+use Rattle.md5_end.specs.End.{padded, rest}
+use Rattle.md5_end.proofs.EndLaws.{little-length, whole-rest}
+use Rattle.md5.specs.Message.{initial, padding, digestOf, md5, tooLong}
 use Rattle.md5_two.specs.declared.Two.{Two}
 use Rattle.md5_two.specs.Two.{FirstEightOf, both, stepsTwo, blockTwo, wholeTwo}
 

@@ -1,16 +1,16 @@
 // The first eight digest bytes of two messages at once, a block of each at a time. A step of MD5 waits for the step before it,
 // but not for those of the other message, so that two blocks in turn take little longer than one.
 use md5::FirstEight;
-use md5::eight;
 use md5::first_eight;
-use md5::initial;
-use md5::last_words;
 use md5::within;
 use md5_block::ADDENDS;
 use md5_block::Words;
 use md5_block::block_words;
 use md5_block::four;
 use md5_block::sum;
+use md5_end::eight;
+use md5_end::initial;
+use md5_end::last_words;
 use refusal::Verdict;
 ghost use mathlib.Core.Path.{_≡_};
 ghost use mathlib.Core.List.{_++_};

@@ -6,7 +6,8 @@ use native.Mathlib.Omega.{arith}
 use lib.ListN.{length}
 use lib.Seq.{length-take-le}
 use Rattle.md5_block.specs.Block.{addends, whole}
-use Rattle.md5.specs.Message.{padded, padding, waiting, digestOf, finished}
+use Rattle.md5_end.specs.End.{padded}
+use Rattle.md5.specs.Message.{padding, waiting, digestOf, finished}
 use Rattle.md5.proofs.MessageLaws.{waiting-zeros}
 use borrow.Author.Needs.{needs}
 use Rattle.md5.proofs.Md5.finish.Statement.{statement}

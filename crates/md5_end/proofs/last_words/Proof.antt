@@ -1,9 +1,9 @@
--- `md5::last_words`: one byte, zeros and the length.
+-- `md5_end::last_words`: one byte, zeros and the length.
 use mathlib.Core.Path.{ap, _∙_}
 use Rattle.md5_block.specs.Block.{wordsOf}
 use borrow.Author.Needs.{needs}
-use Rattle.md5.proofs.last_words.Statement.{statement}
-use Rattle.md5.proofs.last_words.Tie as tie
+use Rattle.md5_end.proofs.last_words.Statement.{statement}
+use Rattle.md5_end.proofs.last_words.Tie as tie
 
 array-write-t : tie.Need-array-write-t
 array-write-t c = search needs

@@ -1,12 +1,12 @@
--- `md5::lay_rest`: the last bytes of s, past its whole blocks.
+-- `md5_end::lay_rest`: the last bytes of s, past its whole blocks.
 use mathlib.Core.Path.{_≡_, ap, _∙_}
 use lib.ListN.{length}
 use Rattle.field.specs.Part.{overlay}
 use Rattle.field.proofs.Laws.{overlay-length}
-use Rattle.md5.proofs.MessageLaws.{last-part}
+use Rattle.md5_end.proofs.EndLaws.{last-part}
 use borrow.Author.Needs.{needs}
-use Rattle.md5.proofs.lay_rest.Statement.{statement}
-use Rattle.md5.proofs.lay_rest.Tie as tie
+use Rattle.md5_end.proofs.lay_rest.Statement.{statement}
+use Rattle.md5_end.proofs.lay_rest.Tie as tie
 
 sub-copy : tie.Need-sub-copy
 sub-copy c = search needs

@@ -1,12 +1,12 @@
--- `md5::eight`: the bytes of a and b.
+-- `md5_end::eight`: the bytes of a and b.
 use mathlib.Core.Path.{_≡_, ap, _∙_}
 use Prim.Native.Nat.{_<_}
 use native.Mathlib.Omega.{arith}
-use Rattle.md5.specs.Message.{littleBytes, digestOf}
-use Rattle.md5.proofs.MessageLaws.{two-words}
+use Rattle.md5_end.specs.End.{littleBytes, digestOf}
+use Rattle.md5_end.proofs.EndLaws.{two-words}
 use borrow.Author.Needs.{needs}
-use Rattle.md5.proofs.eight.Statement.{statement}
-use Rattle.md5.proofs.eight.Tie as tie
+use Rattle.md5_end.proofs.eight.Statement.{statement}
+use Rattle.md5_end.proofs.eight.Tie as tie
 
 pair-requires : tie.Need-pair-requires
 pair-requires c κs = search needs

@@ -1,12 +1,12 @@
--- `md5::put_length`: the bytes of the length over the last eight.
+-- `md5_end::put_length`: the bytes of the length over the last eight.
 use mathlib.Core.Path.{_≡_, ap, _∙_}
 use mathlib.Core.List.{_++_}
 use lib.ListN.{length, take}
 use Rattle.field.proofs.Laws.{overlay-length}
-use Rattle.md5.proofs.MessageLaws.{little-length, bits-modulo, length-put}
+use Rattle.md5_end.proofs.EndLaws.{little-length, bits-modulo, length-put}
 use borrow.Author.Needs.{needs}
-use Rattle.md5.proofs.put_length.Statement.{statement}
-use Rattle.md5.proofs.put_length.Tie as tie
+use Rattle.md5_end.proofs.put_length.Statement.{statement}
+use Rattle.md5_end.proofs.put_length.Tie as tie
 
 mul-little : tie.Need-mul-little
 mul-little c = search needs

@@ -1,9 +1,9 @@
--- `md5::last_two`: a block, and the block of the length.
+-- `md5_end::last_two`: a block, and the block of the length.
 use mathlib.Core.Path.{ap, ap₂, _∙_}
 use Rattle.md5_block.specs.Block.{block}
 use borrow.Author.Needs.{needs}
-use Rattle.md5.proofs.last_two.Statement.{statement}
-use Rattle.md5.proofs.last_two.Tie as tie
+use Rattle.md5_end.proofs.last_two.Statement.{statement}
+use Rattle.md5_end.proofs.last_two.Tie as tie
 
 block-words-requires : tie.Need-block-words-requires
 block-words-requires c κs = search needs

@@ -1,14 +1,14 @@
--- `md5::end`: one block after the whole ones or two, by the room that is left for the length.
+-- `md5_end::end`: one block after the whole ones or two, by the room that is left for the length.
 use mathlib.Core.Path.{_≡_, refl}
 use Prim.Native.Nat.{_%_, _<_}
 use native.Mathlib.Omega.{arith}
 use lib.ListN.{length}
 use Rattle.md5_block.specs.Block.{addends}
-use Rattle.md5.specs.Message.{rest}
-use Rattle.md5.proofs.MessageLaws.{rest-length, marked, end-one, end-two}
+use Rattle.md5_end.specs.End.{rest}
+use Rattle.md5_end.proofs.EndLaws.{rest-length, marked, end-one, end-two}
 use borrow.Author.Needs.{needs}
-use Rattle.md5.proofs.end.Statement.{statement}
-use Rattle.md5.proofs.end.Tie as tie
+use Rattle.md5_end.proofs.end.Statement.{statement}
+use Rattle.md5_end.proofs.end.Tie as tie
 
 lay-rest-requires : tie.Need-lay-rest-requires
 lay-rest-requires c κs = search needs

@@ -1,9 +1,9 @@
--- `md5::little`: a number's bytes, by one division each.
+-- `md5_end::little`: a number's bytes, by one division each.
 use mathlib.Core.Path.{sym}
-use Rattle.md5.proofs.MessageLaws.{eight-bytes}
+use Rattle.md5_end.proofs.EndLaws.{eight-bytes}
 use borrow.Author.Needs.{needs}
-use Rattle.md5.proofs.little.Statement.{statement}
-use Rattle.md5.proofs.little.Tie as tie
+use Rattle.md5_end.proofs.little.Statement.{statement}
+use Rattle.md5_end.proofs.little.Tie as tie
 
 cast-t3 : tie.Need-cast-t3
 cast-t3 c = search needs

@@ -1,14 +1,14 @@
--- `md5::bytes`: the bytes of a and b, and those of c and d.
+-- `md5_end::bytes`: the bytes of a and b, and those of c and d.
 use mathlib.Core.Path.{_≡_, sym, ap, ap₂, _∙_}
 use mathlib.Core.List.{_++_, append-assoc}
 use Prim.Native.Nat.{_<_}
 use native.Mathlib.Omega.{arith}
 use lib.ListN.{length}
-use Rattle.md5.specs.Message.{littleBytes, digestOf}
-use Rattle.md5.proofs.MessageLaws.{little-length, two-words, digest-laid}
+use Rattle.md5_end.specs.End.{littleBytes, digestOf}
+use Rattle.md5_end.proofs.EndLaws.{little-length, two-words, digest-laid}
 use borrow.Author.Needs.{needs}
-use Rattle.md5.proofs.bytes.Statement.{statement}
-use Rattle.md5.proofs.bytes.Tie as tie
+use Rattle.md5_end.proofs.bytes.Statement.{statement}
+use Rattle.md5_end.proofs.bytes.Tie as tie
 
 pair-requires : tie.Need-pair-requires
 pair-requires c κs = search needs
