@@ -3,7 +3,7 @@ use mathlib.Core.Path.{_≡_, refl, ap, _∙_}
 use Rattle.field.specs.Number.{bigAt, littleAt, within}
 use Rattle.parts.specs.Part.{sameBytes, allZero, partsFrom}
 use Rattle.refusal.specs.Check.{silent, refused, refusedIf, first, firstFrom}
-use Rattle.md5.specs.Block.{addends, shifts, mixed, wordNumber, turned, step, steps, word, wordsOf, sum, block, blocks}
+use Rattle.md5_block.specs.Block.{addends, shifts, mixed, wordNumber, turned, step, steps, word, wordsOf, sum, block, blocks}
 use Rattle.md5.specs.Message.{littleBytes, padding, initial, digestOf, md5}
 use Rattle.key.specs.Order.{compared, decided}
 use Rattle.index_layout.specs.Layout.{layoutFrom, pagesFor, entrySize, full, onPage, entryAt, lastKeyAt, pageHashAt, indexLength}

@@ -4,7 +4,7 @@ use mathlib.Core.List.{[], _∷_}
 use Rattle.parts.specs.Part.{sameBytes}
 use Rattle.field.specs.Number.{bigAt, littleAt, within}
 use Rattle.key.specs.Order.{compared, decided}
-use Rattle.md5.specs.Block.{addends, shifts, mixed, wordNumber, turned, step, steps, word, wordsOf, sum, block, blocks}
+use Rattle.md5_block.specs.Block.{addends, shifts, mixed, wordNumber, turned, step, steps, word, wordsOf, sum, block, blocks}
 use Rattle.md5.specs.Message.{littleBytes, padding, initial, digestOf, md5}
 use Rattle.refusal.specs.Check.{silent, refusedIf, first}
 use Rattle.refusal.specs.Outcome.{answered, absent}

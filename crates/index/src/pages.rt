@@ -37,10 +37,7 @@ pub fn page_hashes(s: &[u8], page: Page) -> PageHashes
     ensures { λ r. ⌜ r .second ≡ take 8 (md5 (layout.pageOf (now (s .entry)) (page .0 + 1))) ⌝ }
 {
     let at = page_at(page);
-    let both = first_eight_of_two(
-        part(s, at, PAGE_SIZE),
-        part(s, at + PAGE_SIZE, PAGE_SIZE),
-    );
+    let both = first_eight_of_two(part(s, at, PAGE_SIZE), part(s, at + PAGE_SIZE, PAGE_SIZE));
     let hash = both.first;
     let next_hash = both.second;
     let first = hash.bytes;
