@@ -70,16 +70,16 @@ module _ (s : Md5) (part : List ℕ) (size : length (s .pending) ≡ 64) (h : 64
       let e : length (a ++ b) / 64 * 64 ≡ length a + length b / 64 * 64 = rw length-append (omega (arith, a-length)) in
       ap (λ i. drop i (a ++ b)) e ∙ drop-append-add a b (length b / 64 * 64)
 
-  pub absorb-long : (block left new : List ℕ) (v u : Words) → block ≡ overlay (s .pending) (s .count % 64) (take (64 - s .count % 64) part)
-      → left ≡ drop (64 - s .count % 64) part → v ≡ whole addends block (s .words) → u ≡ whole addends left v → new ≡ overlay (replicate 64 0) 0 (rest left)
+  pub absorb-long : (k block left new : List ℕ) (v u : Words) → k ≡ addends → block ≡ overlay (s .pending) (s .count % 64) (take (64 - s .count % 64) part)
+      → left ≡ drop (64 - s .count % 64) part → v ≡ whole k block (s .words) → u ≡ whole k left v → new ≡ overlay (replicate 64 0) 0 (rest left)
       → _≡_ {A = Md5} (record { words = u; pending = new; count = s .count + length part }) (absorbed s part)
   unfolding absorbed
-  absorb-long block left new v u e f x y z =
+  absorb-long k block left new v u q e f x y z =
       let is-a : block ≡ a = e ∙ filled-is in
       let all : a ++ left ≡ waiting s ++ part = ap (λ l. a ++ l) f ∙ all-is in
-      let one : v ≡ blocks addends 1 a (s .words) = x ∙ ap (λ l. whole addends l (s .words)) is-a ∙ ap (λ i. blocks addends (i / 64) a (s .words)) a-length in
+      let one : v ≡ blocks addends 1 a (s .words) = x ∙ ap₂ (λ t l. whole t l (s .words)) q is-a ∙ ap (λ i. blocks addends (i / 64) a (s .words)) a-length in
       let words : u ≡ whole addends (waiting s ++ part) (s .words) =
-      y ∙ ap (whole addends left) one ∙ sym (whole-append addends 1 a left (s .words) a-length) ∙ ap (λ l. whole addends l (s .words)) all in
+      y ∙ ap₂ (λ t w. whole t left w) q one ∙ sym (whole-append addends 1 a left (s .words) a-length) ∙ ap (λ l. whole addends l (s .words)) all in
       let short : length (rest left) ≤ 64 = rw rest-length (omega arith) in
       let test : ltb (s .count % 64 + length part) 64 ≡ false = le-ltb (s .count % 64 + length part) 64 (omega arith) in
       let pending : new ≡ filled (rest (waiting s ++ part)) = z ∙ over-zeros (rest left) short ∙ ap filled (sym (rest-is left) ∙ ap rest all) in

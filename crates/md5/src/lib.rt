@@ -1,13 +1,13 @@
 // MD5 (RFC 1321) over bytes that come in parts.
-use md5_block::ADDENDS;
+use parts::copy;
 use md5_block::Words;
+use md5_block::addends;
 use md5_block::blocks;
 use md5_end::bytes;
 use md5_end::eight;
 use md5_end::end;
 use md5_end::initial;
 use md5_end::lay_rest;
-use parts::copy;
 use refusal::HASH_LIMIT;
 use refusal::Verdict;
 use refusal::refuse;
@@ -79,7 +79,7 @@ fn fill(state: Md5, part: &[u8]) -> Md5
     requires { ⌜ (state .count + length (now part) ≤ 2 ^ 48) × (64 - state .count % 64 ≤ length (now part)) ⌝ }
     ensures { λ r. ⌜ r ≡ spec.absorbed state (now (part .entry)) ⌝ }
 {
-    let k = ADDENDS;
+    let k = addends();
     let n = (state.count % 64) as usize;
     let room = 64 - n;
     let mut filled = state.pending;

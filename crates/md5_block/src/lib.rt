@@ -15,7 +15,7 @@ pub struct Words {
 }
 
 // T of RFC 1321, by the step's number.
-pub const ADDENDS: [u32; 64] = [
+const ADDENDS: [u32; 64] = [
     0xd76a_a478,
     0xe8c7_b756,
     0x2420_70db,
@@ -84,6 +84,13 @@ pub const ADDENDS: [u32; 64] = [
 
 // The shift amounts, by the round and the step's place in a group of four.
 const SHIFTS: [u32; 16] = [7, 12, 17, 22, 5, 9, 14, 20, 4, 11, 16, 23, 6, 10, 15, 21];
+
+// The table of addends, for who hashes to lend it.
+pub fn addends() -> [u32; 64]
+    ensures { λ r. ⌜ r ≡ spec.addends ⌝ }
+{
+    ADDENDS
+}
 
 // F, G, H and I of RFC 1321, by the round. F is written with one operation less after b, on which the next step waits.
 fn mix(round: usize, b: u32, c: u32, d: u32) -> u32

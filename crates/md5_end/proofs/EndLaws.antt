@@ -13,7 +13,7 @@ use lib.Seq.{drop-drop, take-append-le, take-append-seam, drop-append-add, drop-
 use Rattle.parts.specs.Part.{overlay}
 use Rattle.parts.proofs.Laws.{overlay-inside, overlay-after, part-to-end}
 use Rattle.md5_block.specs.declared.Words.{Words}
-use Rattle.md5_block.specs.Block.{addends, wordsOf, block, blocks, whole}
+use Rattle.md5_block.specs.Block.{wordsOf, block, blocks, whole}
 use Rattle.md5_block.proofs.BlockLaws.{whole-append, whole-none, whole-one, blocks-append}
 use Rattle.md5_end.specs.End.{littleBytes, padded, zeros, rest, filled}
 
@@ -163,35 +163,35 @@ rest-append s q =
     ap rest (sym (all s q)) ∙ ap (λ i. drop i (a ++ b)) e ∙ drop-append-add a b (length b / 64 * 64)
 
 -- the end of a message: what stands after its whole blocks fills one block
-pub end-one : (s t u x : List ℕ) (c n : ℕ) (w e r : Words) → n ≡ length s % 64 → n < 56 → t ≡ rest s ++ (128 ∷ replicate (63 - n) 0)
-    → u ≡ take 56 t ++ littleBytes 8 (c * 8) → x ≡ wordsOf 16 u → e ≡ whole addends s w → r ≡ block addends x e
-    → r ≡ whole addends (s ++ padded (zeros (length s)) c) w
-end-one s t u x c n w e r m h p q f g b =
+pub end-one : (k s t u x : List ℕ) (c n : ℕ) (w e r : Words) → n ≡ length s % 64 → n < 56 → t ≡ rest s ++ (128 ∷ replicate (63 - n) 0)
+    → u ≡ take 56 t ++ littleBytes 8 (c * 8) → x ≡ wordsOf 16 u → e ≡ whole k s w → r ≡ block k x e
+    → r ≡ whole k (s ++ padded (zeros (length s)) c) w
+end-one k s t u x c n w e r m h p q f g b =
     let l : List ℕ = littleBytes 8 (c * 8) in
     let z : 55 - n ≡ zeros (length s) = omega arith in
     let len : length (rest s) ≡ n = rest-length s ∙ sym m in
     let is : u ≡ rest s ++ padded (zeros (length s)) c =
-    q ∙ ap (λ y. take 56 y ++ l) p ∙ with-length (rest s) l n len h ∙ ap (λ k. rest s ++ padded k c) z in
+    q ∙ ap (λ y. take 56 y ++ l) p ∙ with-length (rest s) l n len h ∙ ap (λ j. rest s ++ padded j c) z in
     let size : length (rest s ++ padded (zeros (length s)) c) ≡ 64 = simp (length-append, length-replicate, little-length) (omega arith) in
-    b ∙ ap₂ (block addends) (f ∙ ap (wordsOf 16) is) g ∙ sym (whole-one addends (rest s ++ padded (zeros (length s)) c) (whole addends s w) size)
-    ∙ sym (whole-rest addends s (padded (zeros (length s)) c) w)
+    b ∙ ap₂ (block k) (f ∙ ap (wordsOf 16) is) g ∙ sym (whole-one k (rest s ++ padded (zeros (length s)) c) (whole k s w) size)
+    ∙ sym (whole-rest k s (padded (zeros (length s)) c) w)
 
 -- or two
-pub end-two : (s t : List ℕ) (c n : ℕ) (w e r : Words) → n ≡ length s % 64 → 56 ≤ n → t ≡ rest s ++ (128 ∷ replicate (63 - n) 0) → e ≡ whole addends s w
-    → r ≡ block addends (wordsOf 16 (replicate 56 0 ++ littleBytes 8 (c * 8))) (block addends (wordsOf 16 t) e)
-    → r ≡ whole addends (s ++ padded (zeros (length s)) c) w
-end-two s t c n w e r m h p g b =
+pub end-two : (k s t : List ℕ) (c n : ℕ) (w e r : Words) → n ≡ length s % 64 → 56 ≤ n → t ≡ rest s ++ (128 ∷ replicate (63 - n) 0) → e ≡ whole k s w
+    → r ≡ block k (wordsOf 16 (replicate 56 0 ++ littleBytes 8 (c * 8))) (block k (wordsOf 16 t) e)
+    → r ≡ whole k (s ++ padded (zeros (length s)) c) w
+end-two k s t c n w e r m h p g b =
     let l : List ℕ = littleBytes 8 (c * 8) in
-    let v : Words = whole addends s w in
+    let v : Words = whole k s w in
     let u : List ℕ = replicate 56 0 ++ l in
     let z : 63 - n + 56 ≡ zeros (length s) = omega arith in
     let len : length (rest s) ≡ n = rest-length s ∙ sym m in
     let size : length t ≡ 64 = ap length p ∙ simp (length-append, length-replicate) (omega arith) in
-    let one : block addends (wordsOf 16 t) e ≡ blocks addends 1 t v = ap (block addends (wordsOf 16 t)) g ∙ sym (whole-one addends t v size) ∙ ap (λ k. blocks addends (k / 64) t v) size in
-    let is : t ++ u ≡ rest s ++ padded (zeros (length s)) c = ap (λ k. k ++ u) p ∙ without-length (rest s) l n len 56 ∙ ap (λ k. rest s ++ padded k c) z in
+    let one : block k (wordsOf 16 t) e ≡ blocks k 1 t v = ap (block k (wordsOf 16 t)) g ∙ sym (whole-one k t v size) ∙ ap (λ j. blocks k (j / 64) t v) size in
+    let is : t ++ u ≡ rest s ++ padded (zeros (length s)) c = ap (λ j. j ++ u) p ∙ without-length (rest s) l n len 56 ∙ ap (λ j. rest s ++ padded j c) z in
     let last : length u ≡ 64 = simp little-length in
-    b ∙ ap (block addends (wordsOf 16 u)) one ∙ sym (whole-one addends u _ last) ∙ sym (whole-append addends 1 t u v size) ∙ ap (λ k. whole addends k v) is
-    ∙ sym (whole-rest addends s (padded (zeros (length s)) c) w)
+    b ∙ ap (block k (wordsOf 16 u)) one ∙ sym (whole-one k u _ last) ∙ sym (whole-append k 1 t u v size) ∙ ap (λ j. whole k j v) is
+    ∙ sym (whole-rest k s (padded (zeros (length s)) c) w)
 
 -- the slice that `end` takes for the rest
 pub last-part : (s : List ℕ) → take (length s - (length s - length s % 64)) (drop (length s - length s % 64) s) ≡ rest s

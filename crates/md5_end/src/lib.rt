@@ -1,10 +1,10 @@
 // The end of a message of RFC 1321: what is left after its whole blocks, the padding, and the digest's bytes.
-use md5_block::ADDENDS;
+use parts::copy;
 use md5_block::Words;
+use md5_block::addends;
 use md5_block::block;
 use md5_block::block_words;
 use md5_block::blocks;
-use parts::copy;
 ghost use mathlib.Core.Path.{_≡_};
 ghost use mathlib.Core.List.{_++_, _∷_};
 ghost use Prim.Native.Nat.{_+_, _*_, _^_};
@@ -84,7 +84,7 @@ fn last_two(w: Words, t: &[u8; 64], count: u64, k: &[u32; 64]) -> Words
 pub fn end(w: Words, s: &[u8], count: u64) -> Words
     ensures { λ r. ⌜ r ≡ whole addends (now (s .entry) ++ spec.padded (spec.zeros (length (now (s .entry)))) count) w ⌝ }
 {
-    let k = ADDENDS;
+    let k = addends();
     let n = s.len() % 64;
     let mut t = [0u8; 64];
     lay_rest(s, &mut t);

@@ -47,18 +47,18 @@ block-two-is t x y v e1 e2 e3 e4 e5 e6 e7 e8 e9 e10 e11 e12 e13 e14 e15 e16 p q 
     (block-is t y (v .second) (all-steps t y (v .second) (ap (λ w. w .second) e1) (ap (λ w. w .second) e2) (ap (λ w. w .second) e3) (ap (λ w. w .second) e4) (ap (λ w. w .second) e5) (ap (λ w. w .second) e6) (ap (λ w. w .second) e7) (ap (λ w. w .second) e8) (ap (λ w. w .second) e9) (ap (λ w. w .second) e10) (ap (λ w. w .second) e11) (ap (λ w. w .second) e12) (ap (λ w. w .second) e13) (ap (λ w. w .second) e14) (ap (λ w. w .second) e15) (ap (λ w. w .second) e16)) q)
 
 -- the padding of whole blocks is one block
-pub end-whole : (s x : List ℕ) (n : ℕ) (w e r : Words) → n ≡ length s → n % 64 ≡ 0 → e ≡ whole addends s w → x ≡ wordsOf 16 (padded 55 n) → r ≡ block addends x e
-    → r ≡ whole addends (s ++ padding (length s)) w
+pub end-whole : (k s x : List ℕ) (n : ℕ) (w e r : Words) → n ≡ length s → n % 64 ≡ 0 → e ≡ whole k s w → x ≡ wordsOf 16 (padded 55 n) → r ≡ block k x e
+    → r ≡ whole k (s ++ padding (length s)) w
 unfolding padding
-end-whole s x n w e r l h p q b =
+end-whole k s x n w e r l h p q b =
     let none : length s ≤ length s / 64 * 64 = omega arith in
     let nothing : rest s ≡ [] = drop-of-length-le s none in
     let fifty-five : (119 - length s % 64) % 64 ≡ 55 = omega arith in
     let same : padded 55 n ≡ padded ((119 - length s % 64) % 64) (length s) = ap₂ padded (sym fifty-five) l in
     let size : length (padded ((119 - length s % 64) % 64) (length s)) ≡ 64 = simp (length-append, length-replicate, little-length) (omega arith) in
-    b ∙ ap₂ (block addends) (q ∙ ap (wordsOf 16) same) p ∙ sym (whole-one addends (padded ((119 - length s % 64) % 64) (length s)) (whole addends s w) size)
-    ∙ ap (λ l. whole addends (l ++ padded ((119 - length s % 64) % 64) (length s)) (whole addends s w)) (sym nothing)
-    ∙ sym (whole-rest addends s (padded ((119 - length s % 64) % 64) (length s)) w)
+    b ∙ ap₂ (block k) (q ∙ ap (wordsOf 16) same) p ∙ sym (whole-one k (padded ((119 - length s % 64) % 64) (length s)) (whole k s w) size)
+    ∙ ap (λ l. whole k (l ++ padded ((119 - length s % 64) % 64) (length s)) (whole k s w)) (sym nothing)
+    ∙ sym (whole-rest k s (padded ((119 - length s % 64) % 64) (length s)) w)
 
 -- the answer for a message within the limit
 pub passed-is : (m : List ℕ) (n : ℕ) (w : Words) (r : FirstEight) → n ≡ length m → tooLong n ≡ false → w ≡ whole addends (m ++ padding (length m)) initial

@@ -3,8 +3,8 @@
 use md5::FirstEight;
 use md5::first_eight;
 use md5::within;
-use md5_block::ADDENDS;
 use md5_block::Words;
+use md5_block::addends;
 use md5_block::block_words;
 use md5_block::four;
 use md5_block::sum;
@@ -98,7 +98,7 @@ fn together(a: &[u8], b: &[u8]) -> Two
     ensures { λ r. ⌜ r .first ≡ whole addends (now (a .entry) ++ padding (length (now (a .entry)))) initial ⌝ }
     ensures { λ r. ⌜ r .second ≡ whole addends (now (b .entry) ++ padding (length (now (b .entry)))) initial ⌝ }
 {
-    let k = ADDENDS;
+    let k = addends();
     let start = Two {
         first: initial(),
         second: initial(),

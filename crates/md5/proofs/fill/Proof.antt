@@ -4,17 +4,19 @@ use Prim.Native.Nat.{_-_, _%_}
 use lib.ListN.{length}
 use lib.Seq.{length-take-le}
 use Rattle.parts.proofs.Laws.{part-to-end}
-use Rattle.md5_block.specs.Block.{addends}
 use Rattle.md5.proofs.MessageLaws.{absorb-long}
 use borrow.Author.Needs.{needs}
 use Rattle.md5.proofs.fill.Statement.{statement}
 use Rattle.md5.proofs.fill.Tie as tie
 
+addends-requires : tie.Need-addends-requires
+addends-requires c κs = search needs
+
 sub-room : tie.Need-sub-room
 sub-room c = search needs
 
 slice-aggregate-copy : tie.Need-slice-aggregate-copy
-slice-aggregate-copy c = sym (length-take-le _ _ (c .before .before .before .before .pre .1))
+slice-aggregate-copy c = sym (length-take-le _ _ (c .before .before .before .before .before .pre .1))
 
 slice-aggregate-copy-2 : tie.Need-slice-aggregate-copy-2
 slice-aggregate-copy-2 c = search needs
@@ -47,18 +49,18 @@ add-t27 : tie.Need-add-t27
 add-t27 c = search needs
 
 returns : tie.Need-returns
-unfolding addends
 returns c =
-    let s = c .before .before .before .before .before .before .before .before .before .before .before .before .before .before .before .before in
+    let s = c .before .before .before .before .before .before .before .before .before .before .before .before .before .before .before .before .before in
     let a = s .args in
     let size : length (a .state .pending) ≡ 64 = search needs in
-    absorb-long (a .state) (a .part .now) size (s .pre .1) _ _ _ _ _
+    absorb-long (a .state) (a .part .now) size (s .pre .1) _ _ _ _ _ _ (c .before .before .before .before .before .before .before .before .before .before .before .before .before .before .before .addends .ensures)
     (c .before .before .before .before .before .before .before .before .before .before .copy .ensures) (part-to-end (64 - a .state .count % 64) (a .part .now)) (c .before .before .before .before .before .blocks2 .ensures) (c .before .before .before .blocks3 .ensures) (c .before .lay-rest .ensures .0)
 
 pub fill-spec : {M : Type 1} → statement M
 fill-spec =
     tie.close
     (tie.spec
+    addends-requires
     sub-room
     slice-aggregate-copy
     slice-aggregate-copy-2
