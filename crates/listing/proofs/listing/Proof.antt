@@ -4,6 +4,7 @@ use mathlib.Core.List.{[], _∷_}
 use native.Mathlib.Omega.{arith}
 use borrow.Author.Needs.{needs}
 use Rattle.refusal.specs.Outcome.{answered}
+use Rattle.refusal.specs.Output.{filled}
 use Rattle.refusal.proofs.Laws.{after-said, after-quiet}
 use Rattle.index_layout.specs.Layout.{layoutOf}
 use Rattle.index_open.proofs.Laws.{refused-index}
@@ -35,7 +36,7 @@ put-text-requires-2 : tie.Need-put-text-requires-2
 put-text-requires-2 c κs = passed (c .before .before .before .before .before .before) .width
 
 returns : tie.Need-returns
-unfolding outcome fitted
+unfolding outcome fitted filled
 returns c =
     let s = c .before .before .before .before .before .before .args .input .now in
     let k = c .before .before .before .check in

@@ -30,19 +30,19 @@ array-write-digits : tie.Need-array-write-digits Inv-loop μ-loop
 array-write-digits c = search needs
 
 sub-first : tie.Need-sub-first Inv-loop μ-loop
-sub-first c = omega (arith, two-left (c .before .loop .first) (c .before .loop .rest) (c .loop-test .taken) (c .before .loop .inv .2))
+sub-first c = omega (arith, two-left (c .before .loop .first) (c .before .loop .rest) (omega arith) (c .before .loop .inv .2))
 
 loop-less : tie.Need-loop-less Inv-loop μ-loop
-loop-less c = omega (arith, two-left (c .before .loop .first) (c .before .loop .rest) (c .loop-test .taken) (c .before .loop .inv .2))
+loop-less c = omega (arith, two-left (c .before .loop .first) (c .before .loop .rest) (omega arith) (c .before .loop .inv .2))
 
 loop-again : tie.Need-loop-again Inv-loop μ-loop
 loop-again c =
     let l = c .before .loop in
-    let left = two-left (l .first) (l .rest) (c .loop-test .taken) (l .inv .2) in (
+    let left = two-left (l .first) (l .rest) (omega arith) (l .inv .2) in (
       omega arith,
       simp length-set (l .inv .1),
       tenth-fits (l .first) (l .rest) left (l .inv .2),
-      digit-turn (c .before .before .before .args .n) (l .first) (l .rest) (l .digits) (c .loop-test .taken) left (omega arith) (l .inv .3),
+      digit-turn (c .before .before .before .args .n) (l .first) (l .rest) (l .digits) (omega arith) left (omega arith) (l .inv .3),
     )
 
 cast-digits-2 : tie.Need-cast-digits-2 Inv-loop μ-loop
