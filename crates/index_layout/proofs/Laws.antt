@@ -1,7 +1,7 @@
 -- Laws of the layout.
 use mathlib.Core.Path.{_≡_}
 use mathlib.Core.List.{List}
-use Prim.Native.Nat.{ℕ, suc, _+_, _-_, _*_, _/_, _≤_, _<_}
+use Prim.Native.Nat.{ℕ, suc, _+_, _-_, _*_, _/_, _^_, _≤_, _<_, min}
 use native.Mathlib.Nat.{le-trans, mul-le-mul, mul-le-mul-left, mul-le-mul-right, div-mul-le-self, div-add-mod', le-div-iff-mul-le, min-le-left, add-mul, mul-one, one-mul, suc-mul}
 use native.Mathlib.Decide.{decLt}
 use native.Mathlib.Omega.{arith}
@@ -11,15 +11,15 @@ use Rattle.parts.proofs.Laws.{part-of-part}
 use Rattle.index_layout.specs.declared.Layout.{Layout}
 use Rattle.field.specs.Number.{bigAt}
 use Rattle.field.proofs.Laws.{bigAt-below}
-use Rattle.index_layout.specs.Entries.{archiveOf, offsetOf}
-use Rattle.index_layout.specs.Layout.{entrySize, full, onPage, entryAt, keyAt}
+use Rattle.index_layout.specs.Entries.{sizeAt, locationAt, archiveOf, offsetOf}
+use Rattle.index_layout.specs.Layout.{pageSize, entrySize, full, onPage, entryAt, keyAt}
 
 -- a product is at most that of the two bounds
 pub bound : (a b m n : ℕ) → a ≤ m → b ≤ n → a * b ≤ m * n
 bound a b m n h k = mul-le-mul h k
 
 -- how many entries of 4 to 514 bytes 4,096 bytes hold
-pub per-page : (d : ℕ) → 4 ≤ d → d ≤ 514 → (1 ≤ 4096 / d) × (4096 / d ≤ 1024)
+pub per-page : (d : ℕ) → 4 ≤ d → d ≤ 514 → (1 ≤ pageSize / d) × (pageSize / d ≤ 1024)
 per-page d low high =
     let positive : 0 < d = omega arith in
     (le-div-iff-mul-le positive .1 (omega arith), omega (arith, div-mul-le-self 4096 d, mul-le-mul-left (4096 / d) low))
@@ -80,3 +80,25 @@ module _ (s : List ℕ) (at : ℕ) (bytes : (i : ℕ) → byteAt s i < 256) wher
   offset-is =
       let two : at + 2 ≡ at + 1 + 1 = omega arith in
       rw (two, two-and-four) (omega (arith, bigAt-below s bytes (at + 1 + 1) 4))
+
+-- ---- an entry's size and location
+pub entry-fits : (l : Layout) (p i at : ℕ) → at ≡ entryAt l p i → p < 2 ^ 32 → i < 2 ^ 32 → l .«key_length» < 256 → l .«offset_width» < 256 → at + l .«key_length» + 4 < 2 ^ 64
+unfolding entryAt entrySize
+entry-fits l p i at e hp hi hk ho =
+    let small : l .«key_length» + 4 + l .«offset_width» ≤ 514 = omega arith in
+    let low : i ≤ 4294967295 = omega arith in
+    omega (arith, mul-le-mul low small)
+
+pub size-fits : (s : List ℕ) (at r : ℕ) → ((i : ℕ) → byteAt s i < 256) → r ≡ bigAt s at 4 → r < 2 ^ 32
+size-fits s at r bytes e = rw e (bigAt-below s bytes at 4)
+
+module _ (s : List ℕ) (l : Layout) (p i at : ℕ) (e : at ≡ entryAt l p i) where
+  pub size-is : (r : ℕ) → r ≡ bigAt s (at + l .«key_length») 4 → r ≡ sizeAt s l p i
+  unfolding sizeAt
+  size-is r h = rw e at h
+
+  pub location-is : (r : ℕ) → l .«offset_width» ≤ 8 → r ≡ bigAt s (at + l .«key_length» + 4) (min (l .«offset_width») 8) → r ≡ locationAt s l p i
+  unfolding locationAt
+  location-is r w h =
+      let narrow : min (l .«offset_width») 8 ≡ l .«offset_width» = omega arith in
+      rw (e, narrow) at h

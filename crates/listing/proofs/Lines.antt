@@ -6,7 +6,7 @@ use Rattle.field.specs.Number.{bigAt}
 use Rattle.parts.specs.Part.{partAt}
 use Rattle.index_layout.specs.declared.Layout.{Layout}
 use Rattle.index_layout.specs.Layout.{entryAt, keyAt}
-use Rattle.lookup.proofs.Laws.{size-is, location-is}
+use Rattle.index_layout.proofs.Laws.{size-is, location-is}
 use Rattle.lines.specs.Lines.{entryLine}
 use Rattle.listing.specs.Listing.{line}
 

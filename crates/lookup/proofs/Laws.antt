@@ -2,17 +2,15 @@
 use mathlib.Core.Path.{_≡_, refl, sym, ap, _∙_}
 use mathlib.Core.Bool.{Bool, true, false, not}
 use mathlib.Core.List.{List, [], _∷_}
-use Prim.Native.Nat.{ℕ, _+_, _*_, _^_, _≤_, _<_, min}
-use native.Mathlib.Nat.{zero-mul, mul-le-mul}
+use Prim.Native.Nat.{ℕ, _+_, _*_, _≤_, _<_}
+use native.Mathlib.Nat.{zero-mul}
 use native.Mathlib.Omega.{arith}
 use lib.Dec.{eqb}
 use lib.ListN.{length, drop, length-drop}
 use lib.Seq.{take-all, drop-drop}
 use borrow.Author.Tests.{lt-ltb, le-ltb, eq-eqb, ne-eqb, not-true, not-false}
-use Rattle.parts.specs.Part.{byteAt, partAt, sameBytes}
-use Rattle.field.specs.Number.{bigAt}
+use Rattle.parts.specs.Part.{partAt, sameBytes}
 use Rattle.parts.proofs.Laws.{sameBytes-of-eq, sameBytes-eq}
-use Rattle.field.proofs.Laws.{bigAt-below}
 use Rattle.key.specs.Order.{compared, isBelow, isEqual}
 use Rattle.key.proofs.Laws.{equal-of-eq, eq-of-equal, isEqual-true}
 use Rattle.refusal.specs.Check.{silent, refused}
@@ -108,28 +106,6 @@ module _ (s sought : List ℕ) (l : Layout) where
         → outcome r ≡ endOutcome s l (ended (storedIn s l sought))
     unfolding ended endedFrom storedIn
     on-page r some same = same ∙ rw (← e, lt-ltb (h .place) (l .pages) some)
-
--- ---- an entry's size and location
-pub entry-fits : (l : Layout) (p i at : ℕ) → at ≡ entryAt l p i → p < 2 ^ 32 → i < 2 ^ 32 → l .«key_length» < 256 → l .«offset_width» < 256 → at + l .«key_length» + 4 < 2 ^ 64
-unfolding entryAt entrySize
-entry-fits l p i at e hp hi hk ho =
-    let small : l .«key_length» + 4 + l .«offset_width» ≤ 514 = omega arith in
-    let low : i ≤ 4294967295 = omega arith in
-    omega (arith, mul-le-mul low small)
-
-pub size-fits : (s : List ℕ) (at r : ℕ) → ((i : ℕ) → byteAt s i < 256) → r ≡ bigAt s at 4 → r < 2 ^ 32
-size-fits s at r bytes e = rw e (bigAt-below s bytes at 4)
-
-module _ (s : List ℕ) (l : Layout) (p i at : ℕ) (e : at ≡ entryAt l p i) where
-  pub size-is : (r : ℕ) → r ≡ bigAt s (at + l .«key_length») 4 → r ≡ sizeAt s l p i
-  unfolding sizeAt
-  size-is r h = rw e at h
-
-  pub location-is : (r : ℕ) → l .«offset_width» ≤ 8 → r ≡ bigAt s (at + l .«key_length» + 4) (min (l .«offset_width») 8) → r ≡ locationAt s l p i
-  unfolding locationAt
-  location-is r w h =
-      let narrow : min (l .«offset_width») 8 ≡ l .«offset_width» = omega arith in
-      rw (e, narrow) at h
 
 -- ---- what the checks say
 

@@ -19,7 +19,6 @@ ghost use lib.ListN.{length, take};
 ghost use Rattle.refusal.specs.Check.{checkOf};
 ghost use Rattle.md5_block.specs.Block.{addends, whole};
 ghost use Rattle.md5.specs.Message as spec;
-ghost use Rattle.md5.specs.Cutting.{Updates};
 
 // The most bytes that are hashed in all: 2^48.
 pub const LIMIT: u64 = 281_474_976_710_656;
@@ -49,7 +48,7 @@ pub struct FirstEight {
 }
 
 // Whether n more bytes stay within the limit.
-pub fn within(count: u64, n: u64) -> bool
+pub fn within_limit(count: u64, n: u64) -> bool
     ensures { λ r. ⌜ spec.tooLong (count + n) ≡ not r ⌝ }
 {
     if LIMIT < count {
@@ -119,9 +118,10 @@ impl Md5 {
 
     // Takes the next part of the message. A refused part leaves the state as it was.
     pub fn update(self, part: &[u8]) -> Updated
-        ensures { λ r. ⌜ Updates self (now (part .entry)) r ⌝ }
+        ensures verdict { λ r. ⌜ checkOf (r .verdict) ≡ spec.limited (self .count + length (now (part .entry))) ⌝ }
+        ensures state { λ r. ⌜ r .state ≡ spec.updated self (now (part .entry)) ⌝ }
     {
-        if !within(self.count, part.len() as u64) {
+        if !within_limit(self.count, part.len() as u64) {
             return Updated {
                 verdict: refuse(HASH_LIMIT, 0),
                 state: self,
@@ -156,7 +156,7 @@ pub fn digest(message: &[u8]) -> Hashed
     ensures verdict { λ r. ⌜ checkOf (r .verdict) ≡ spec.limited (length (now (message .entry))) ⌝ }
     ensures bytes { λ r. ⌜ r .bytes ≡ spec.digestOr0 (now (message .entry)) ⌝ }
 {
-    if !within(0, message.len() as u64) {
+    if !within_limit(0, message.len() as u64) {
         return Hashed {
             verdict: refuse(HASH_LIMIT, 0),
             bytes: [0u8; 16],
@@ -173,7 +173,7 @@ pub fn first_eight(message: &[u8]) -> FirstEight
     ensures verdict { λ r. ⌜ checkOf (r .verdict) ≡ spec.limited (length (now (message .entry))) ⌝ }
     ensures bytes { λ r. ⌜ r .bytes ≡ take 8 (spec.digestOr0 (now (message .entry))) ⌝ }
 {
-    if !within(0, message.len() as u64) {
+    if !within_limit(0, message.len() as u64) {
         return FirstEight {
             verdict: refuse(HASH_LIMIT, 0),
             bytes: [0u8; 8],

@@ -66,4 +66,4 @@ pub passed-is : (m : List ℕ) (n : ℕ) (w : Words) (r : FirstEight) → n ≡ 
 unfolding refusedIf md5
 passed-is m n w r l f p q =
     let e : tooLong (length m) ≡ false = ap tooLong (sym l) ∙ f in
-    record { said = rw e (q .0); eight = rw e (q .1 ∙ ap (λ v. take 8 (digestOf v)) p) }
+    (rw e (q .0), rw e (q .1 ∙ ap (λ v. take 8 (digestOf v)) p))

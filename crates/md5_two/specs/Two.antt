@@ -11,9 +11,8 @@ use Rattle.refusal.specs.Check.{checkOf}
 use Rattle.md5_two.specs.declared.Two.{Two}
 
 -- The answer for one message: its own verdict, and the first eight bytes of its digest.
-pub record FirstEightOf (m : List ℕ) (r : FirstEight) : Type 0 where
-  pub said : checkOf (r .verdict) ≡ limited (length m)
-  pub eight : r .bytes ≡ take 8 (digestOr0 m)
+abbrev pub FirstEightOf : List ℕ → FirstEight → Type 0
+FirstEightOf m r = (checkOf (r .verdict) ≡ limited (length m)) × (r .bytes ≡ take 8 (digestOr0 m))
 
 -- What the private functions ensure.
 abbrev pub both : Words → Words → Two

@@ -2,7 +2,7 @@
 // but not for those of the other message, so that two blocks in turn take little longer than one.
 use md5::FirstEight;
 use md5::first_eight;
-use md5::within;
+use md5::within_limit;
 use md5_block::Words;
 use md5_block::addends;
 use md5_block::block_words;
@@ -18,7 +18,7 @@ ghost use Prim.Native.Nat.{_*_, _%_};
 ghost use lib.ListN.{length, take};
 ghost use Rattle.refusal.specs.Check.{checkOf, silent};
 ghost use Rattle.md5_block.specs.Block.{addends, whole};
-ghost use Rattle.md5.specs.Message.{initial, padding, digestOf};
+ghost use Rattle.md5.specs.Message.{initial, padding, digestOf, limited, digestOr0};
 ghost use Rattle.md5_two.specs.Two as spec;
 
 // The words of two messages.
@@ -130,14 +130,14 @@ fn passed(w: Words) -> FirstEight
 // The first eight bytes of the digests of two messages, or a refusal of each. Of one length in whole blocks they are hashed
 // together.
 pub fn first_eight_of_two(a: &[u8], b: &[u8]) -> TwoFirstEights
-    ensures first { λ r. ⌜ spec.FirstEightOf (now (a .entry)) (r .first) ⌝ }
-    ensures second { λ r. ⌜ spec.FirstEightOf (now (b .entry)) (r .second) ⌝ }
+    ensures first { λ r. ⌜ (checkOf (r .first .verdict) ≡ limited (length (now (a .entry)))) × (r .first .bytes ≡ take 8 (digestOr0 (now (a .entry)))) ⌝ }
+    ensures second { λ r. ⌜ (checkOf (r .second .verdict) ≡ limited (length (now (b .entry)))) × (r .second .bytes ≡ take 8 (digestOr0 (now (b .entry)))) ⌝ }
 {
     let n = a.len();
     if n != b.len() || n % 64 != 0 {
         return one_by_one(a, b);
     }
-    if !within(0, n as u64) {
+    if !within_limit(0, n as u64) {
         return one_by_one(a, b);
     }
     let w = together(a, b);

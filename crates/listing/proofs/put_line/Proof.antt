@@ -1,7 +1,7 @@
 -- `listing::put_line`: key, size and location of an entry are read.
 use native.Mathlib.Omega.{arith}
 use borrow.Author.Needs.{needs}
-use Rattle.lookup.proofs.Laws.{entry-fits}
+use Rattle.index_layout.proofs.Laws.{entry-fits}
 use Rattle.listing.proofs.Lines.{line-is}
 use Rattle.listing.proofs.put_line.Statement.{statement}
 use Rattle.listing.proofs.put_line.Tie as tie

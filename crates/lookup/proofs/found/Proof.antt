@@ -4,7 +4,7 @@ use mathlib.Core.List.{[], _∷_}
 use native.Mathlib.Omega.{arith}
 use Rattle.refusal.specs.Outcome.{answered}
 use Rattle.lookup.specs.Lookup.{outcome}
-use Rattle.lookup.proofs.Laws.{entry-fits, size-fits, size-is, location-is}
+use Rattle.index_layout.proofs.Laws.{entry-fits, size-fits, size-is, location-is}
 use borrow.Author.Needs.{needs}
 use Rattle.lookup.proofs.found.Statement.{statement}
 use Rattle.lookup.proofs.found.Tie as tie

@@ -10,8 +10,8 @@ use borrow.Author.Needs.{needs}
 use Rattle.md5.proofs.digest.Statement.{statement}
 use Rattle.md5.proofs.digest.Tie as tie
 
-within-requires : tie.Need-within-requires
-within-requires c κs = search needs
+within-limit-requires : tie.Need-within-limit-requires
+within-limit-requires c κs = search needs
 
 refuse-requires : tie.Need-refuse-requires
 refuse-requires c κs = search needs
@@ -20,7 +20,7 @@ returns : tie.Need-returns
 unfolding refusedIf
 returns c =
     let n = length (c .before .before .before .before .args .message .now) in
-    let e : tooLong n ≡ true = ap tooLong (sym (zero-add n)) ∙ c .before .before .within .ensures ∙ c .before .if1 .taken in
+    let e : tooLong n ≡ true = ap tooLong (sym (zero-add n)) ∙ c .before .before .within-limit .ensures ∙ c .before .if1 .taken in
     (c .refuse .ensures ∙ rw e, rw e)
 
 words-after-requires : tie.Need-words-after-requires
@@ -33,14 +33,14 @@ returns-2 : tie.Need-returns-2
 unfolding refusedIf checkOf
 returns-2 c =
     let m = c .before .before .before .before .before .args .message .now in
-    let e : tooLong (length m) ≡ false = ap tooLong (sym (zero-add (length m))) ∙ c .before .before .before .within .ensures ∙ c .before .before .if1 .left in
+    let e : tooLong (length m) ≡ false = ap tooLong (sym (zero-add (length m))) ∙ c .before .before .before .within-limit .ensures ∙ c .before .before .if1 .left in
     (rw e, digest-told (λ b. b) m _ _ e (c .before .words-after .ensures) (c .bytes .ensures))
 
 pub digest-spec : {M : Type 1} → statement M
 digest-spec =
     tie.close
     (tie.spec
-    within-requires
+    within-limit-requires
     refuse-requires
     returns
     words-after-requires

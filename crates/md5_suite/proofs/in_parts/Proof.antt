@@ -54,7 +54,7 @@ loop-again c =
     let l = c .before .before .before .before .before .loop in
     let end = l .at + c .before .before .before .least .result in
     let inside : end ≤ length (a .s .now) = omega arith in
-    (inside, part-more (a .s .now) _ _ (l .at) end (omega arith) inside (p .0) (l .inv .1) (c .before .update .ensures))
+    (inside, part-more (a .s .now) _ _ (l .at) end (omega arith) inside (p .0) (l .inv .1) (record { said = c .before .update .ensures .0; after = c .before .update .ensures .1 }))
 
 finish-requires : tie.Need-finish-requires Inv-loop μ-loop
 finish-requires c κs = search needs

@@ -16,8 +16,8 @@ one-by-one-requires c κs = search needs
 returns : tie.Need-returns
 returns c = search needs
 
-within-requires : tie.Need-within-requires
-within-requires c κs = search needs
+within-limit-requires : tie.Need-within-limit-requires
+within-limit-requires c κs = search needs
 
 one-by-one-requires-2 : tie.Need-one-by-one-requires-2
 one-by-one-requires-2 c κs = search needs
@@ -39,7 +39,7 @@ returns-3 c =
     let a = c .before .before .before .before .before .before .before .before .before .before .before .args .a .now in
     let b = c .before .before .before .before .before .before .before .before .before .before .before .args .b .now in
     let t = c .before .before .before .before .together .ensures in
-    let short : tooLong (length a) ≡ false = ap tooLong (sym (zero-add (length a))) ∙ c .before .before .before .before .before .before .within .ensures ∙ c .before .before .before .before .before .if3 .left in
+    let short : tooLong (length a) ≡ false = ap tooLong (sym (zero-add (length a))) ∙ c .before .before .before .before .before .before .within-limit .ensures ∙ c .before .before .before .before .before .if3 .left in
     (passed-is a (length a) _ _ refl short (t .0) (c .before .passed .ensures), passed-is b (length a) _ _ (c .before .before .before .before .before .before .before .before .if1 .left) short (t .1) (c .passed2 .ensures))
 
 pub first-eight-of-two-spec : {M : Type 1} → statement M
@@ -48,7 +48,7 @@ first-eight-of-two-spec =
     (tie.spec
     one-by-one-requires
     returns
-    within-requires
+    within-limit-requires
     one-by-one-requires-2
     returns-2
     together-requires

@@ -31,10 +31,10 @@ returns c =
     let a = c .before .before .before .before .before .before .before .before .before .before .before .before .before .before .args in
     let s = c .before .before .before .before .before .before .before .before .before .state in
     let u = c .before .before .before .before .before .before .before .before .update .ensures in
-    let v = u .said ∙ ap (λ r. limited (r .count + length (a .part .now))) (s .ensures) in
+    let v = u .0 ∙ ap (λ r. limited (r .count + length (a .part .now))) (s .ensures) in
     let n = a .count .now + length (a .part .now) in
     let within : tooLong n ≡ false = silent-test (tooLong n) hash-limit 0 (sym v ∙ ap checkOf (c .before .before .before .before .before .enum-told .given .1)) in
-    let e = u .after ∙ ap (λ r. updated r (a .part .now)) (s .ensures) in (
+    let e = u .1 ∙ ap (λ r. updated r (a .part .now)) (s .ensures) in (
       c .tell .ensures .0 ∙ ap (λ k. result (verdictOutcome k)) v,
       (rw within (ap (λ r. wordsTo (r .words)) (rw within at e)), (ap (λ r. r .pending) e, (ap (λ r. r .count) e, c .tell .ensures .1 ∙ ap (λ k. wordsOf (verdictOutcome k)) v))),
     )
@@ -52,7 +52,7 @@ returns-2 c =
     let n = a .count .now + length (a .part .now) in
     let s = c .before .before .before .before .before .before .state in
     let u = c .before .before .before .before .before .update .ensures in
-    let v = u .said ∙ ap (λ r. limited (r .count + length (a .part .now))) (s .ensures) in
+    let v = u .0 ∙ ap (λ r. limited (r .count + length (a .part .now))) (s .ensures) in
     let e : tooLong n ≡ true = refused-test (tooLong n) hash-limit 0 _ _ (sym v ∙ ap checkOf (c .before .before .enum-told2 .given .1)) in
     (c .tell2 .ensures .0 ∙ ap (λ k. result (verdictOutcome k)) v, (rw e, (rw e, (rw e, c .tell2 .ensures .1 ∙ ap (λ k. wordsOf (verdictOutcome k)) v))))
 

@@ -11,8 +11,8 @@ use borrow.Author.Needs.{needs}
 use Rattle.md5.proofs.Md5.update.Statement.{statement}
 use Rattle.md5.proofs.Md5.update.Tie as tie
 
-within-requires : tie.Need-within-requires
-within-requires c κs = search needs
+within-limit-requires : tie.Need-within-limit-requires
+within-limit-requires c κs = search needs
 
 refuse-requires : tie.Need-refuse-requires
 refuse-requires c κs = search needs
@@ -21,21 +21,21 @@ returns : tie.Need-returns
 unfolding refusedIf
 returns c =
     let a = c .before .before .before .before .args in
-    let e : tooLong (a .self .count + length (a .part .now)) ≡ true = c .before .before .within .ensures ∙ c .before .if1 .taken in
-    record { said = c .refuse .ensures ∙ rw e; after = rw e }
+    let e : tooLong (a .self .count + length (a .part .now)) ≡ true = c .before .before .within-limit .ensures ∙ c .before .if1 .taken in
+    (c .refuse .ensures ∙ rw e, rw e)
 
 absorb-requires : tie.Need-absorb-requires
 absorb-requires c κs =
     let a = c .before .before .before .args in
-    omega (arith, ltb-false (2 ^ 48) (a .self .count + length (a .part .now)) (c .before .within .ensures ∙ c .if1 .left))
+    omega (arith, ltb-false (2 ^ 48) (a .self .count + length (a .part .now)) (c .before .within-limit .ensures ∙ c .if1 .left))
 
 returns-2 : tie.Need-returns-2
 unfolding refusedIf checkOf
 returns-2 c =
     let a = c .before .before .before .before .args in
-    let e : tooLong (a .self .count + length (a .part .now)) ≡ false = c .before .before .within .ensures ∙ c .before .if1 .left in
-    record { said = rw e; after = rw e (c .absorb .ensures) }
+    let e : tooLong (a .self .count + length (a .part .now)) ≡ false = c .before .before .within-limit .ensures ∙ c .before .if1 .left in
+    (rw e, rw e (c .absorb .ensures))
 
 pub update-spec : {M : Type 1} → statement M
 update-spec =
-    tie.close (tie.spec within-requires refuse-requires returns absorb-requires returns-2)
+    tie.close (tie.spec within-limit-requires refuse-requires returns absorb-requires returns-2)
