@@ -196,13 +196,10 @@ uint32_t dwarnizza_index_write(uint8_t version, uint8_t offset_width,
  * it is last. Keys are in lower-case hex, numbers in decimal, and each line
  * ends in a line feed. No zero byte ends the text.
  *
- * The listing makes the full check. A refusal is one line in place of all:
- * "refused 8 at 3", or "refused 1" for a number that names no place. Input
- * above 65,536 bytes is "refused 70", whatever it holds.
- *
- * Answered always: answer[0] is the length of the text. Where output_len is
- * that or more, the text is written at the start of output, and the bytes past
- * it stay; else output keeps all its bytes, and a longer one may be tried.
+ * Answered: answer[0] is the length of the text. Where output_len is that or
+ * more, the text is written at the start of output, and the bytes past it stay;
+ * else output keeps all its bytes, and a longer one may be tried.
+ * Refused: 70 above 65,536 bytes of input; then as the full check refuses.
  */
 uint32_t dwarnizza_index_listing(const uint8_t *input, size_t input_len,
                                  uint8_t *output, size_t output_len,

@@ -17,6 +17,6 @@ wordsOf (answered values) = take 8 (values ++ replicate 8 0)
 wordsOf (absent values) = take 8 (values ++ replicate 8 0)
 wordsOf (refusal number place) = number ∷ place ∷ replicate 6 0
 
--- A check that has no values to tell.
-abbrev pub told : Check → Outcome
-told check = after check (answered [])
+-- A check that has no values to give.
+abbrev pub verdictOutcome : Check → Outcome
+verdictOutcome check = after check (answered [])

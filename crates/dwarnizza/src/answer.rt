@@ -4,7 +4,7 @@ use refusal::Verdict;
 ghost use mathlib.Core.Path.{_≡_};
 ghost use Rattle.refusal.specs.Check.{checkOf};
 ghost use Rattle.refusal.specs.Outcome.{refusal};
-ghost use Rattle.dwarnizza.specs.Answer.{result, wordsOf, told};
+ghost use Rattle.dwarnizza.specs.Answer.{result, wordsOf, verdictOutcome};
 
 // Lays out a refusal.
 pub(crate) fn refused(r: Refusal, answer: &mut [u64; 8]) -> u32
@@ -19,8 +19,8 @@ pub(crate) fn refused(r: Refusal, answer: &mut [u64; 8]) -> u32
 
 // Lays out the answer of a check that has no values to tell.
 pub(crate) fn tell(verdict: Verdict, answer: &mut [u64; 8]) -> u32
-    ensures { λ r. ⌜ r ≡ result (told (checkOf verdict)) ⌝ }
-    ensures { λ _. ⌜ now (answer .exit) ≡ wordsOf (told (checkOf verdict)) ⌝ }
+    ensures { λ r. ⌜ r ≡ result (verdictOutcome (checkOf verdict)) ⌝ }
+    ensures { λ _. ⌜ now (answer .exit) ≡ wordsOf (verdictOutcome (checkOf verdict)) ⌝ }
 {
     match verdict {
         Verdict::Passed => {

@@ -1,18 +1,18 @@
 // MD5.
 use crate::answer::tell;
 use md5::Md5;
-use md5::Words;
+use md5_block::Words;
 use refusal::Verdict;
 ghost use mathlib.Core.Path.{_≡_};
 ghost use mathlib.Core.Bool.{cond};
-ghost use Prim.Native.Nat.{_+_, _^_, _<_};
+ghost use Prim.Native.Nat.{_+_};
 ghost use lib.ListN.{length, replicate};
 ghost use Rattle.md5.specs.Message as md5;
-ghost use Rattle.dwarnizza.specs.Answer.{result, wordsOf, told};
-ghost use Rattle.dwarnizza.specs.Md5State.{stateOf, wordsTo};
+ghost use Rattle.dwarnizza.specs.Answer.{result, wordsOf, verdictOutcome};
+ghost use Rattle.dwarnizza.specs.Md5State.{stateOf, wordsTo, wordsAfter};
 
 fn state(words: &[u32; 4], pending: &[u8; 64], count: u64) -> Md5
-    ensures { λ r. ⌜ md5.running r ≡ stateOf (now (words .entry)) (now (pending .entry)) count ⌝ }
+    ensures { λ r. ⌜ r ≡ stateOf (now (words .entry)) (now (pending .entry)) count ⌝ }
 {
     let bytes = *pending;
     Md5 {
@@ -30,9 +30,9 @@ fn state(words: &[u32; 4], pending: &[u8; 64], count: u64) -> Md5
 // The digest of a message. A refusal leaves the digest's bytes.
 #[no_mangle]
 pub extern "C" fn dwarnizza_md5(message: &[u8], digest: &mut [u8; 16], answer: &mut [u64; 8]) -> u32
-    ensures { λ r. ⌜ r ≡ result (told (md5.limited (length (now (message .entry))))) ⌝ }
+    ensures { λ r. ⌜ r ≡ result (verdictOutcome (md5.limited (length (now (message .entry))))) ⌝ }
     ensures { λ _. ⌜ now (digest .exit) ≡ cond (md5.tooLong (length (now (message .entry)))) (now (digest .entry)) (md5.md5 (now (message .entry))) ⌝ }
-    ensures { λ _. ⌜ now (answer .exit) ≡ wordsOf (told (md5.limited (length (now (message .entry))))) ⌝ }
+    ensures { λ _. ⌜ now (answer .exit) ≡ wordsOf (verdictOutcome (md5.limited (length (now (message .entry))))) ⌝ }
 {
     let hashed = md5::digest(message);
     let verdict = hashed.verdict;
@@ -54,7 +54,6 @@ pub extern "C" fn dwarnizza_md5_start(
 ) -> u32
     ensures { λ r. ⌜ r ≡ 0 ⌝ }
     ensures { λ _. ⌜ (now (words .exit) ≡ wordsTo md5.initial) × (now (pending .exit) ≡ replicate 64 0) × (now (count .exit) ≡ 0) ⌝ }
-    ensures { λ _. ⌜ stateOf (now (words .exit)) (now (pending .exit)) (now (count .exit)) ≡ md5.started ⌝ }
     ensures { λ _. ⌜ now (answer .exit) ≡ replicate 8 0 ⌝ }
 {
     let fresh = Md5::new();
@@ -76,10 +75,11 @@ pub extern "C" fn dwarnizza_md5_update(
     count: &mut u64,
     answer: &mut [u64; 8],
 ) -> u32
-    ensures { λ r. ⌜ r ≡ result (told (md5.limited (now (count .entry) + length (now (part .entry))))) ⌝ }
-    ensures { λ _. ⌜ stateOf (now (words .exit)) (now (pending .exit)) (now (count .exit)) ≡ md5.updated (stateOf (now (words .entry)) (now (pending .entry)) (now (count .entry))) (now (part .entry)) ⌝ }
-    ensures { λ _. ⌜ (2 ^ 48 < now (count .entry) + length (now (part .entry)) → (now (words .exit) ≡ now (words .entry)) × (now (pending .exit) ≡ now (pending .entry)) × (now (count .exit) ≡ now (count .entry))) ⌝ }
-    ensures { λ _. ⌜ now (answer .exit) ≡ wordsOf (told (md5.limited (now (count .entry) + length (now (part .entry))))) ⌝ }
+    ensures { λ r. ⌜ r ≡ result (verdictOutcome (md5.limited (now (count .entry) + length (now (part .entry))))) ⌝ }
+    ensures { λ _. ⌜ now (words .exit) ≡ wordsAfter (now (words .entry)) (now (pending .entry)) (now (count .entry)) (now (part .entry)) ⌝ }
+    ensures { λ _. ⌜ now (pending .exit) ≡ (md5.updated (stateOf (now (words .entry)) (now (pending .entry)) (now (count .entry))) (now (part .entry))) .pending ⌝ }
+    ensures { λ _. ⌜ now (count .exit) ≡ (md5.updated (stateOf (now (words .entry)) (now (pending .entry)) (now (count .entry))) (now (part .entry))) .count ⌝ }
+    ensures { λ _. ⌜ now (answer .exit) ≡ wordsOf (verdictOutcome (md5.limited (now (count .entry) + length (now (part .entry))))) ⌝ }
 {
     let n = *count;
     let updated = state(words, pending, n).update(part);

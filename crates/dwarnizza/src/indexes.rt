@@ -2,6 +2,7 @@
 use crate::answer::refused;
 use entries::Listed;
 use index_open::Checked;
+use listing::ListingText;
 use lookup::Answer;
 use lookup::Bounded;
 use writer::Settings;
@@ -13,12 +14,11 @@ ghost use Rattle.index.specs.Check.{checkOutcome};
 ghost use Rattle.index_layout.specs.Entries.{listOf};
 ghost use Rattle.entries.specs.List.{listCheck, listOutcome};
 ghost use Rattle.lookup.specs.Lookup.{lookupOf, boundOf};
-ghost use Rattle.writer.specs.File.{fileOf};
+ghost use Rattle.index_file.specs.File.{fileOf};
 ghost use Rattle.writer.specs.Write.{layoutFor, writeCheck, writeOutcome};
-ghost use Rattle.listing.specs.Put.{fitted};
-ghost use Rattle.listing.specs.Listing as listing;
+ghost use Rattle.listing.specs.Listing.{textOf, listingCheck, listingOutcome, fitted};
 ghost use Rattle.dwarnizza.specs.Answer.{result, wordsOf};
-ghost use Rattle.dwarnizza.specs.Indexes.{settingsFrom, listingOutcome};
+ghost use Rattle.dwarnizza.specs.Indexes.{settingsFrom};
 
 // The full check: version, offset width, key length, entries and pages.
 #[no_mangle]
@@ -30,11 +30,11 @@ pub extern "C" fn dwarnizza_index_check(index: &[u8], answer: &mut [u64; 8]) -> 
         Checked::Refused(r) => refused(r, answer),
         Checked::Passed(l) => {
             let version = l.version as u64;
-            let offset = l.offset_width as u64;
-            let key = l.key_length as u64;
+            let offset_width = l.offset_width as u64;
+            let key_length = l.key_length as u64;
             let entries = l.entries as u64;
             let pages = l.pages as u64;
-            *answer = [version, offset, key, entries, pages, 0, 0, 0];
+            *answer = [version, offset_width, key_length, entries, pages, 0, 0, 0];
             0
         }
     }
@@ -105,20 +105,20 @@ pub extern "C" fn dwarnizza_index_bound(index: &[u8], answer: &mut [u64; 8]) -> 
 #[no_mangle]
 pub extern "C" fn dwarnizza_index_write(
     version: u8,
-    offset: u8,
-    key: u8,
+    offset_width: u8,
+    key_length: u8,
     list: &[u8],
     output: &mut [u8],
     answer: &mut [u64; 8],
 ) -> u32
-    ensures { λ r. ⌜ r ≡ result (writeOutcome (settingsFrom version offset key) (now (list .entry)) (length (now (output .entry)))) ⌝ }
-    ensures { λ _. ⌜ now (output .exit) ≡ filled (writeCheck (settingsFrom version offset key) (now (list .entry)) (length (now (output .entry)))) (fileOf (now (list .entry)) (layoutFor (settingsFrom version offset key) (now (list .entry)))) (now (output .entry)) ⌝ }
-    ensures { λ _. ⌜ now (answer .exit) ≡ wordsOf (writeOutcome (settingsFrom version offset key) (now (list .entry)) (length (now (output .entry)))) ⌝ }
+    ensures { λ r. ⌜ r ≡ result (writeOutcome (settingsFrom version «offset_width» «key_length») (now (list .entry)) (length (now (output .entry)))) ⌝ }
+    ensures { λ _. ⌜ now (output .exit) ≡ filled (writeCheck (settingsFrom version «offset_width» «key_length») (now (list .entry)) (length (now (output .entry)))) (fileOf (now (list .entry)) (layoutFor (settingsFrom version «offset_width» «key_length») (now (list .entry)))) (now (output .entry)) ⌝ }
+    ensures { λ _. ⌜ now (answer .exit) ≡ wordsOf (writeOutcome (settingsFrom version «offset_width» «key_length») (now (list .entry)) (length (now (output .entry)))) ⌝ }
 {
     let settings = Settings {
         version,
-        offset,
-        key,
+        offset_width,
+        key_length,
     };
     match writer::write(settings, list, output) {
         Written::Refused(r) => refused(r, answer),
@@ -129,8 +129,7 @@ pub extern "C" fn dwarnizza_index_write(
     }
 }
 
-// The listing of an index, or the line of a refusal: the length of the text. Where the output has no room for all of it, every
-// byte of the output stays.
+// The listing of an index: the length of the text, which stands at the output's start where there is room for all of it.
 #[no_mangle]
 pub extern "C" fn dwarnizza_index_listing(
     input: &[u8],
@@ -138,10 +137,14 @@ pub extern "C" fn dwarnizza_index_listing(
     answer: &mut [u64; 8],
 ) -> u32
     ensures { λ r. ⌜ r ≡ result (listingOutcome (now (input .entry))) ⌝ }
-    ensures { λ _. ⌜ now (output .exit) ≡ fitted (listing.text (now (input .entry))) (now (output .entry)) ⌝ }
+    ensures { λ _. ⌜ now (output .exit) ≡ fitted (listingCheck (now (input .entry))) (textOf (now (input .entry))) (now (output .entry)) ⌝ }
     ensures { λ _. ⌜ now (answer .exit) ≡ wordsOf (listingOutcome (now (input .entry))) ⌝ }
 {
-    let characters = listing::listing(input, output) as u64;
-    *answer = [characters, 0, 0, 0, 0, 0, 0, 0];
-    0
+    match listing::listing(input, output) {
+        ListingText::Refused(r) => refused(r, answer),
+        ListingText::Length(length) => {
+            *answer = [length as u64, 0, 0, 0, 0, 0, 0, 0];
+            0
+        }
+    }
 }

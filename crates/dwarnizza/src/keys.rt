@@ -21,9 +21,9 @@ pub extern "C" fn dwarnizza_key_text(
     ensures { λ _. ⌜ now (key .exit) ≡ filled (textCheck (now (text .entry)) length) (textBytes (now (text .entry))) (now (key .entry)) ⌝ }
     ensures { λ _. ⌜ now (answer .exit) ≡ wordsOf (textOutcome (now (text .entry)) length) ⌝ }
 {
-    let told = key_text::from_text(text, length);
-    let verdict = told.verdict;
-    let bytes = told.bytes;
+    let read = key_text::from_text(text, length);
+    let verdict = read.verdict;
+    let bytes = read.bytes;
     match verdict {
         Verdict::Refused(r) => refused(r, answer),
         Verdict::Passed => {

@@ -3,7 +3,6 @@ use mathlib.Core.Path.{_≡_, refl, sym, ap, _∙_}
 use mathlib.Core.Bool.{Bool, true, false, not}
 use mathlib.Core.List.{List}
 use Prim.Native.Nat.{ℕ, _+_, _-_, _*_, _≤_, _<_}
-use native.Mathlib.Nat.{add-zero}
 use native.Mathlib.Omega.{arith}
 use lib.Dec.{ltb, eqb}
 use Rattle.key.specs.Order.{compared, isBelow}
@@ -12,11 +11,11 @@ use Rattle.rising.specs.Fall.{risesAt, fallFrom}
 use Rattle.rising.proofs.Laws.{fall-check, fall-low}
 use Rattle.refusal.specs.Check.{silent, refused, refusedIf, first, firstFrom}
 use Rattle.refusal.specs.Number.{index-order}
-use Rattle.refusal.proofs.Laws.{said, quiet, from-said, from-quiet, from-none}
+use Rattle.refusal.proofs.Laws.{said, quiet, upto-said, upto-quiet}
 use Rattle.index_layout.specs.declared.Layout.{Layout}
 use Rattle.index_layout.specs.Layout.{pageSize, entrySize, full, onPage, entryNumber, pageAt, keyAt}
 use Rattle.index_layout.proofs.Laws.{page-key}
-use Rattle.index.specs.Check.{keyBefore, notAbove, orderCheck, pageCheck}
+use Rattle.index.specs.Check.{keyBefore, notAbove, orderCheck}
 use borrow.Author.Tests.{lt-ltb, le-ltb, ne-eqb}
 
 -- ---- the order of a page's entries
@@ -38,19 +37,12 @@ module _ (s : List ℕ) (l : Layout) (p : ℕ) where
   pub order-said : (i n : ℕ) (r : Bool) → i < n → notAbove s l p i ≡ not r → not r ≡ true
       → firstFrom (orderCheck s l p) i (n - i) ≡ refused index-order (entryNumber l p i)
   unfolding orderCheck
-  order-said i n r h e t = from-said (orderCheck s l p) i (n - i) (omega arith) (said refl (e ∙ t))
+  order-said i n r h e t = upto-said (orderCheck s l p) i n h (said refl (e ∙ t))
 
   pub order-quiet : (i n : ℕ) (r : Bool) → i < n → notAbove s l p i ≡ not r → not r ≡ false
       → firstFrom (orderCheck s l p) i (n - i) ≡ firstFrom (orderCheck s l p) (i + 1) (n - (i + 1))
   unfolding orderCheck
-  order-quiet i n r h e t =
-      let left : n - i - 1 ≡ n - (i + 1) = omega arith in
-      from-quiet (orderCheck s l p) i (n - i) (omega arith) (quiet index-order (entryNumber l p i) refl (e ∙ t)) ∙ ap (firstFrom (orderCheck s l p) (i + 1)) left
-
-  pub order-end : (i n : ℕ) → n ≤ i → firstFrom (orderCheck s l p) i (n - i) ≡ silent
-  order-end i n h =
-      let none : n - i ≡ 0 = omega arith in
-      ap (firstFrom (orderCheck s l p) i) none ∙ from-none (orderCheck s l p) i
+  order-quiet i n r h e t = upto-quiet (orderCheck s l p) i n h (quiet index-order (entryNumber l p i) refl (e ∙ t))
 
 -- the order of a page's entries from the second on, by the first that falls
 module _ (s : List ℕ) (l : Layout) (p : ℕ) where
@@ -77,20 +69,3 @@ module _ (s : List ℕ) (l : Layout) (p : ℕ) where
     rest-quiet h =
         let low = fall-low page size (l .«key_length») 1 (count - 1) in
         quiet index-order (p * full l + fall) rest-told (le-ltb fall (1 + (onPage l p - 1)) (omega (arith, low, f)))
-
--- ---- all pages
-module _ (s : List ℕ) (l : Layout) where
-  pub page-said : (p n : ℕ) {number place : ℕ} → p < n → pageCheck s l p ≡ refused number place
-      → firstFrom (pageCheck s l) p (n - p) ≡ refused number place
-  page-said p n h e = from-said (pageCheck s l) p (n - p) (omega arith) e
-
-  pub page-quiet : (p n : ℕ) → p < n → pageCheck s l p ≡ silent
-      → firstFrom (pageCheck s l) p (n - p) ≡ firstFrom (pageCheck s l) (p + 1) (n - (p + 1))
-  page-quiet p n h e =
-      let left : n - p - 1 ≡ n - (p + 1) = omega arith in
-      from-quiet (pageCheck s l) p (n - p) (omega arith) e ∙ ap (firstFrom (pageCheck s l) (p + 1)) left
-
-  pub page-end : (p n : ℕ) → n ≤ p → firstFrom (pageCheck s l) p (n - p) ≡ silent
-  page-end p n h =
-      let none : n - p ≡ 0 = omega arith in
-      ap (firstFrom (pageCheck s l) p) none ∙ from-none (pageCheck s l) p

@@ -9,6 +9,7 @@ ghost use Rattle.index.specs.Check as spec;
 
 mod pages;
 
+pub use pages::PageHashes;
 pub use pages::page_hashes;
 
 // The full check.

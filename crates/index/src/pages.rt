@@ -5,7 +5,7 @@ use index_layout::PAGE_SIZE;
 use index_layout::Page;
 use index_layout::Slot;
 use index_layout::page_at;
-use md5::TwoFirstEights;
+use md5_two::first_eight_of_two;
 use parts::all_zero;
 use parts::equal;
 use parts::part;
@@ -25,13 +25,24 @@ ghost use Rattle.refusal.specs.Number.{index-page-hash, index-padding, last-key
 ghost use Rattle.index_layout.specs.Layout as layout;
 ghost use Rattle.index.specs.Check as spec;
 
-// The first eight bytes of the hashes of a page and of the next. Two are hashed together because that is quicker.
-pub fn page_hashes(s: &[u8], page: Page) -> TwoFirstEights
+// The first eight bytes of the hashes of a page and of the next.
+pub struct PageHashes {
+    pub first: [u8; 8],
+    pub second: [u8; 8],
+}
+
+// Two pages are hashed together because that is quicker.
+pub fn page_hashes(s: &[u8], page: Page) -> PageHashes
     ensures { λ r. ⌜ r .first ≡ take 8 (md5 (layout.pageOf (now (s .entry)) (page .0))) ⌝ }
     ensures { λ r. ⌜ r .second ≡ take 8 (md5 (layout.pageOf (now (s .entry)) (page .0 + 1))) ⌝ }
 {
     let at = page_at(page);
-    md5::first_eight_of_two(part(s, at, PAGE_SIZE), part(s, at + PAGE_SIZE, PAGE_SIZE))
+    let both = first_eight_of_two(part(s, at, PAGE_SIZE), part(s, at + PAGE_SIZE, PAGE_SIZE));
+    let hash = both.first;
+    let next_hash = both.second;
+    let first = hash.bytes;
+    let second = next_hash.bytes;
+    PageHashes { first, second }
 }
 
 // The first eight bytes of a page's hash against the stored ones.

@@ -110,6 +110,13 @@ fn footer_hash_right(footer: &[u8]) -> bool
     equal(&bytes, part(footer, FOOTER_HASH_AT, HASH_LENGTH as usize))
 }
 
+// The entry count, the one number that is little-endian.
+fn entry_count(footer: &[u8]) -> u64
+    ensures { λ r. ⌜ r ≡ layout.entryCount (now (footer .entry)) ⌝ }
+{
+    little(footer, ENTRY_COUNT_AT, 4)
+}
+
 // The layout that a footer tells, where its entries are not too many.
 fn read_layout(footer: &[u8]) -> Layout
     requires { ⌜ layout.entryCount (now footer) ≤ layout.mostEntries ⌝ }
@@ -118,7 +125,7 @@ fn read_layout(footer: &[u8]) -> Layout
     let version = byte(footer, VERSION_AT);
     let offset_width = byte(footer, OFFSET_WIDTH_AT);
     let key_length = byte(footer, KEY_LENGTH_AT);
-    let entries = little(footer, ENTRY_COUNT_AT, 4) as u32;
+    let entries = entry_count(footer) as u32;
     Layout::new(version, offset_width, key_length, entries)
 }
 
@@ -134,7 +141,7 @@ fn check_footer(footer: &[u8]) -> Verdict
     if !footer_hash_right(footer) {
         return refuse(FOOTER_HASH, 0);
     }
-    if MOST_ENTRIES < little(footer, ENTRY_COUNT_AT, 4) {
+    if MOST_ENTRIES < entry_count(footer) {
         return refuse(ENTRY_COUNT, 0);
     }
     Verdict::Passed

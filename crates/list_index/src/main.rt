@@ -1,6 +1,6 @@
 // Lists an archive index: standard input as text on standard output.
-use listing::MOST_TEXT;
-use listing::listing;
+use printed::MOST_PRINTED;
+use printed::print;
 ghost use mathlib.Core.Path.{_≡_};
 ghost use lib.ListN.{length};
 
@@ -13,16 +13,16 @@ fn input_room() -> [u8; MOST_READ]
     [0; MOST_READ]
 }
 
-fn output_room() -> [u8; MOST_TEXT]
+fn output_room() -> [u8; MOST_PRINTED]
     ensures { λ r. ⌜ 655360 ≡ length r ⌝ }
 {
-    [0; MOST_TEXT]
+    [0; MOST_PRINTED]
 }
 
 fn main() {
     let mut input = input_room();
     let read = io::read_full(libc::STDIN_FILENO, &mut input);
     let mut output = output_room();
-    let length = listing(&input[..read], &mut output);
+    let length = print(&input[..read], &mut output);
     io::write_all(libc::STDOUT_FILENO, &output[..length]);
 }

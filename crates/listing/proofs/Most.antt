@@ -1,55 +1,32 @@
 -- No listing is longer than 655,360 bytes: 15 pages of 455 lines of 96 bytes, and a header.
-use mathlib.Core.Path.{_≡_, refl}
-use mathlib.Core.Bool.{Bool, true, false, cond}
-use mathlib.Core.List.{List, [], _++_}
+use mathlib.Core.Path.{_≡_}
+use mathlib.Core.List.{List}
 use Prim.Native.Nat.{ℕ, zero, suc, _+_, _*_, _≤_, zero-le}
 use native.Mathlib.Nat.{mul-le-mul-left, suc-mul}
 use native.Mathlib.Omega.{arith}
-use lib.Dec.{ltb, eqb}
+use lib.Dec.{ltb}
 use lib.ListN.{length, length-append}
 use borrow.Author.Tests.{ltb-false}
 use Rattle.parts.specs.Part.{partsFrom}
 use Rattle.parts.proofs.Laws.{partAt-length}
-use Rattle.refusal.specs.Check.{Check, silent, refused}
+use Rattle.refusal.specs.Check.{silent}
 use Rattle.refusal.specs.Number.{listing-input}
 use Rattle.refusal.proofs.Laws.{first-left, first-right, silent-test}
 use Rattle.index_layout.specs.declared.Layout.{Layout}
-use Rattle.index_layout.specs.Layout.{layoutFrom, layoutOf, full, onPage, indexLength, entryAt, keyAt}
+use Rattle.index_layout.specs.Layout.{pageSize, hashLength, layoutFrom, layoutOf, full, onPage, indexLength, entryAt, keyAt}
 use Rattle.index_open.specs.Open.{opening}
 use Rattle.index.specs.Check.{pagesCheck, fullCheck}
 use Rattle.index_layout.proofs.Laws.{full-fits, on-page-full}
 use Rattle.index_open.proofs.Opened.{Opened, opened, size-range}
-use Rattle.lookup.specs.Lookup.{archiveOf, offsetOf, sizeAt, locationAt}
-use Rattle.listing.specs.Text.{ascii, decimal}
-use Rattle.listing.specs.Listing.{numbered, header, locationText, line, pageText, pagesText, hasPlace, placeText, refusalText, inputCheck, listingCheck, textAfter, text}
-use Rattle.listing.proofs.TextLaws.{digits-most, hex-length}
-use Rattle.listing.proofs.Lengths.{header-length, line-length, refusal-length}
-
-decimal-most : (n : ℕ) → length (decimal n) ≤ 20
-decimal-most n = digits-most 20 n
-
-either-most : (b : Bool) (x y : List ℕ) (n : ℕ) → length x ≤ n → length y ≤ n → length (cond b x y) ≤ n
-either-most true x y n h k = h
-either-most false x y n h k = k
-
-location-most : (w x : ℕ) → length (locationText w x) ≤ 42
-unfolding locationText ascii
-location-most w x =
-    either-most (eqb w 6) (numbered " " (archiveOf x) ++ numbered " " (offsetOf x)) (numbered " - " x) 42
-    (simp length-append (omega (arith, decimal-most (archiveOf x), decimal-most (offsetOf x)))) (omega (arith, decimal-most x))
-
-refusal-most : (number place : ℕ) → length (refusalText number place) ≤ 53
-unfolding placeText ascii
-refusal-most number place =
-    omega (arith, refusal-length number place, decimal-most number, either-most (hasPlace number) (numbered " at " place) [] 24 (omega (arith, decimal-most place)) zero-le)
-
-header-most : (l : Layout) → length (header l) ≤ 115
-header-most l =
-    omega (arith, header-length l, decimal-most (l .«key_length»), decimal-most (l .«offset_width»), decimal-most (l .entries), decimal-most (l .pages))
+use Rattle.index_layout.specs.Entries.{sizeAt, locationAt}
+use Rattle.lines.specs.Lines.{header}
+use Rattle.lines.proofs.Laws.{header-most, entry-most}
+use Rattle.listing.specs.Listing.{line, pageText, pagesText, textBy, textOf, inputCheck, listingCheck}
 
 line-most : (s : List ℕ) (l : Layout) (p i : ℕ) → l .«key_length» ≤ 16 → length (line s l p i) ≤ 96
+unfolding line
 line-most s l p i h =
-    omega (arith, line-length s l p i, hex-length (keyAt s l p i), partAt-length s (entryAt l p i) (l .«key_length»), decimal-most (sizeAt s l p i), location-most (l .«offset_width») (locationAt s l p i))
+    omega (arith, entry-most (keyAt s l p i) (sizeAt s l p i) (l .«offset_width») (locationAt s l p i), partAt-length s (entryAt l p i) (l .«key_length»))
 
 parts-most : (f : ℕ → List ℕ) (c i n : ℕ) → ((j : ℕ) → length (f j) ≤ c) → length (partsFrom f i n) ≤ n * c
 unfolding partsFrom
@@ -75,28 +52,26 @@ module _ (s : List ℕ) (o : Opened s) where
   pages-most : length s ≤ 65536 → layoutOf s .pages ≤ 15
   unfolding indexLength layoutFrom
   pages-most h =
-      let wide : 4105 ≤ 4096 + layoutOf s .«key_length» + 8 = omega (arith, o .key-low) in
+      let wide : 4105 ≤ pageSize + layoutOf s .«key_length» + hashLength = omega (arith, o .key-low) in
       omega (arith, o .whole, mul-le-mul-left (layoutOf s .pages) wide)
 
-  listed-most : length s ≤ 65536 → length (header (layoutOf s) ++ pagesText s (layoutOf s)) ≤ 655360
-  unfolding pagesText
+  listed-most : length s ≤ 65536 → length (textOf s) ≤ 655360
+  unfolding textBy pagesText
   listed-most h =
       rw (length-append (header (layoutOf s)) (partsFrom (pageText s (layoutOf s)) 0 (layoutOf s .pages)))
       (omega (arith, header-most (layoutOf s), parts-most (pageText s (layoutOf s)) 43680 0 (layoutOf s .pages) page-most, pages-most h))
 
 -- an input that is listed
+both-silent : (s : List ℕ) → listingCheck s ≡ silent → (inputCheck s ≡ silent) × (fullCheck s ≡ silent)
+unfolding listingCheck
+both-silent s e = (search (first-left, first-right), search (first-left, first-right))
+
 pub listed : (s : List ℕ) → listingCheck s ≡ silent → (length s ≤ 65536) × Opened s
-unfolding listingCheck fullCheck
+unfolding fullCheck
 listed s e = (
-  ltb-false 65536 (length s) (silent-test (ltb 65536 (length s)) listing-input 0 (first-left (inputCheck s) (fullCheck s) e)),
-  opened s (first-left (opening s) (pagesCheck s (layoutOf s)) (first-right (inputCheck s) (fullCheck s) e)),
+  ltb-false 65536 (length s) (silent-test (ltb 65536 (length s)) listing-input 0 (both-silent s e .0)),
+  opened s (first-left (opening s) (pagesCheck s (layoutOf s)) (both-silent s e .1)),
 )
 
-after-most : (k : Check) (s : List ℕ) → listingCheck s ≡ k → length (textAfter k s) ≤ 655360
-unfolding textAfter
-after-most silent s e = listed-most s (listed s e .1) (listed s e .0)
-after-most (refused number place) s e = omega (arith, refusal-most number place)
-
-pub text-most : (s : List ℕ) → length (text s) ≤ 655360
-unfolding text
-text-most s = after-most (listingCheck s) s refl
+pub text-most : (s : List ℕ) → listingCheck s ≡ silent → length (textOf s) ≤ 655360
+text-most s e = listed-most s (listed s e .1) (listed s e .0)

@@ -1,41 +1,25 @@
 -- The listing of an index: document 01, "Listing, whole".
-use mathlib.Core.Bool.{Bool, _&&_, _||_, cond}
-use mathlib.Core.List.{List, [], _++_}
+use mathlib.Core.Bool.{cond}
+use mathlib.Core.List.{List, [], _∷_, _++_}
 use Prim.Native.Nat.{ℕ}
-use Prim.Native.String.{String}
-use lib.Dec.{ltb, leb, eqb}
+use lib.Dec.{ltb, leb}
 use lib.ListN.{length}
 use Rattle.parts.specs.Part.{partsFrom}
 use Rattle.refusal.specs.Check.{Check, silent, refused, refusedIf, first}
-use Rattle.refusal.specs.Number.{index-page-hash, last-key, chunk-hash, decoded-size, encoding-page-hash, first-key, block-cut, id-range, hex-digit, listing-input}
+use Rattle.refusal.specs.Number.{listing-input}
+use Rattle.refusal.specs.Outcome.{Outcome, answered, refusal, after}
+use Rattle.refusal.specs.Output.{filled}
 use Rattle.index_layout.specs.declared.Layout.{Layout}
 use Rattle.index_layout.specs.Layout.{onPage, layoutOf, keyAt}
 use Rattle.index.specs.Check.{fullCheck}
-use Rattle.lookup.specs.Lookup.{sizeAt, locationAt, archiveOf, offsetOf}
-use Rattle.listing.specs.Text.{ascii, decimal, hex}
+use Rattle.index_layout.specs.Entries.{sizeAt, locationAt}
+use Rattle.lines.specs.Lines.{header, entryLine}
+use Rattle.listing.specs.declared.ListingText.{ListingText}
+use Rattle.listing.specs.declared.ListingText.the-variants.{Length, Refused}
 
--- A word, and a number after it.
-abbrev pub numbered : String → ℕ → List ℕ
-numbered word n = ascii word ++ decimal n
-
--- The first line.
-unfoldable pub header : Layout → List ℕ
-header l =
-    numbered "index key=" (l .«key_length»)
-    ++ numbered " offset=" (l .«offset_width»)
-    ++ numbered " entries=" (l .entries)
-    ++ numbered " pages=" (l .pages)
-    ++ ascii "\n"
-
--- With W = 6 the archive number, else a dash; then the offset.
-unfoldable pub locationText : ℕ → ℕ → List ℕ
-locationText w location =
-    cond (eqb w 6) (numbered " " (archiveOf location) ++ numbered " " (offsetOf location)) (numbered " - " location)
-
--- The line of slot i of page p: key, size, and archive number and offset.
+-- The line of slot i of page p.
 unfoldable pub line : List ℕ → Layout → ℕ → ℕ → List ℕ
-line s l p i =
-    hex (keyAt s l p i) ++ numbered " " (sizeAt s l p i) ++ locationText (l .«offset_width») (locationAt s l p i) ++ ascii "\n"
+line s l p i = entryLine (keyAt s l p i) (sizeAt s l p i) (l .«offset_width») (locationAt s l p i)
 
 -- The lines of a page's entries, and those of all pages.
 unfoldable pub pageText : List ℕ → Layout → ℕ → List ℕ
@@ -44,25 +28,12 @@ pageText s l p = partsFrom (line s l p) 0 (onPage l p)
 unfoldable pub pagesText : List ℕ → Layout → List ℕ
 pagesText s l = partsFrom (pageText s l) 0 (l .pages)
 
--- Whether document 01's table names a place for a number: 6 to 9, 23 to 25, 34 to 37, 40, 41 and 61.
-abbrev pub within : (number low high : ℕ) → Bool
-within number low high = leb low number && leb number high
+-- The text of an index with a layout, and the text of an index.
+unfoldable pub textBy : List ℕ → Layout → List ℕ
+textBy s l = header l ++ pagesText s l
 
-unfoldable pub hasPlace : ℕ → Bool
-hasPlace number =
-    within number index-page-hash last-key
-    || within number chunk-hash decoded-size
-    || within number encoding-page-hash first-key
-    || within number block-cut id-range
-    || eqb number hex-digit
-
--- The place, where the table names one, also a place 0.
-unfoldable pub placeText : ℕ → ℕ → List ℕ
-placeText number place = cond (hasPlace number) (numbered " at " place) []
-
--- The line of a refusal.
-unfoldable pub refusalText : ℕ → ℕ → List ℕ
-refusalText number place = numbered "refused " number ++ placeText number place ++ ascii "\n"
+abbrev pub textOf : List ℕ → List ℕ
+textOf s = textBy s (layoutOf s)
 
 -- 70: above 65,536 bytes.
 abbrev pub inputCheck : List ℕ → Check
@@ -72,11 +43,16 @@ inputCheck s = refusedIf (ltb 65536 (length s)) listing-input 0
 unfoldable pub listingCheck : List ℕ → Check
 listingCheck s = first (inputCheck s) (fullCheck s)
 
--- The text after a check.
-unfoldable pub textAfter : Check → List ℕ → List ℕ
-textAfter silent s = header (layoutOf s) ++ pagesText s (layoutOf s)
-textAfter (refused number place) s = refusalText number place
+-- What the listing tells: the length of the text.
+unfoldable pub outcome : ListingText → Outcome
+outcome (Length n) = answered (n ∷ [])
+outcome (Refused r) = refusal (r .number) (r .place)
 
--- The whole text.
-unfoldable pub text : List ℕ → List ℕ
-text s = textAfter (listingCheck s) s
+abbrev pub listingOutcome : List ℕ → Outcome
+listingOutcome s = after (listingCheck s) (answered (length (textOf s) ∷ []))
+
+-- The text at the start of output that has room for all of it, and bytes past it stay; without room, or after a refusal, every
+-- byte stays.
+unfoldable pub fitted : Check → List ℕ → List ℕ → List ℕ
+fitted silent text output = cond (leb (length text) (length output)) (filled silent text output) output
+fitted (refused number place) text output = output

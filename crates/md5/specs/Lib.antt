@@ -1,3 +1,2 @@
-pub mod Block
 pub mod Message
-pub mod Two
+pub mod Cutting

@@ -1,85 +1,50 @@
 -- MD5 of a message, and of a message that comes in parts.
 use mathlib.Core.Bool.{Bool, cond}
-use mathlib.Core.List.{List, [], _∷_, _++_}
-use Prim.Native.Nat.{ℕ, zero, suc, _+_, _-_, _*_, _/_, _%_, _^_}
+use mathlib.Core.List.{List, _++_}
+use Prim.Native.Nat.{ℕ, _+_, _%_, _^_}
 use lib.Dec.{ltb}
-use lib.ListN.{length, take, drop, replicate}
-use Rattle.md5.specs.declared.block.Words.{Words}
+use lib.ListN.{length, take, replicate}
+use Rattle.md5_block.specs.Block.{addends, whole}
+use Rattle.md5_end.specs.End.{rest, filled}
 use Rattle.md5.specs.declared.Md5.{Md5}
-use Rattle.md5.specs.Block.{blocks}
+use Rattle.parts.specs.Part.{overlay}
 use Rattle.refusal.specs.Check.{Check, refusedIf}
 use Rattle.refusal.specs.Number.{hash-limit}
-
--- The lowest n bytes of a number, the lowest first.
-unfoldable pub littleBytes : ℕ → ℕ → List ℕ
-littleBytes zero x = []
-littleBytes (suc n) x = x % 256 ∷ littleBytes n (x / 256)
-
--- Sections 3.1 and 3.2: one bit, z zero bytes, and the number of bits of n bytes in eight bytes.
-abbrev pub padded : ℕ → ℕ → List ℕ
-padded z n = 128 ∷ replicate z 0 ++ littleBytes 8 (n * 8)
-
--- The padding of a message of n bytes: zeros up to 56 bytes past a whole block.
-unfoldable pub padding : ℕ → List ℕ
-padding n = padded ((119 - n % 64) % 64) n
-
--- Section 3.3.
-unfoldable pub initial : Words
-initial = record { a = 0x67452301; b = 0xefcdab89; c = 0x98badcfe; d = 0x10325476 }
-
--- The words after all whole blocks of s.
-abbrev pub whole : List ℕ → Words → Words
-whole s w = blocks (length s / 64) s w
-
--- Section 3.5: a, b, c and d, the lowest byte first.
-unfoldable pub digestOf : Words → List ℕ
-digestOf w = littleBytes 4 (w .a) ++ littleBytes 4 (w .b) ++ littleBytes 4 (w .c) ++ littleBytes 4 (w .d)
+-- Padding, the first words and the digest's bytes stand in `md5_end`.
+unfoldable pub use Rattle.md5_end.specs.End.{littleBytes, padding, initial, digestOf}
 
 -- The MD5 of a message.
 unfoldable pub md5 : List ℕ → List ℕ
-md5 m = digestOf (whole (m ++ padding (length m)) initial)
+md5 m = digestOf (whole addends (m ++ padding (length m)) initial)
 
--- What a running state stands for: the words after the whole blocks so far, the bytes that wait for their block, and
--- the number of bytes so far.
-pub record Running : Type 0 where
-  pub words : Words
-  pub waiting : List ℕ
-  pub count : ℕ
-
-abbrev pub runningOf : Words → List ℕ → ℕ → Running
-runningOf w pending n = record { words = w; waiting = take (n % 64) pending; count = n }
-
-abbrev pub running : Md5 → Running
-running s = runningOf (s .words) (s .pending) (s .count)
-
--- The first state, and what it stands for.
+-- The state before the first part, and the state that any bytes lead to.
 unfoldable pub fresh : Md5
 fresh = record { words = initial; pending = replicate 64 0; count = 0 }
 
-unfoldable pub started : Running
-started = record { words = initial; waiting = []; count = 0 }
+unfoldable pub stateAfter : List ℕ → Md5
+stateAfter m = record { words = whole addends m initial; pending = filled (rest m); count = length m }
 
--- After one more part.
-unfoldable pub absorbed : Running → List ℕ → Running
-absorbed v part =
+-- The bytes of a state that wait for their block to be whole.
+abbrev pub waiting : Md5 → List ℕ
+waiting s = take (s .count % 64) (s .pending)
+
+-- The pending bytes after one more part: the part is laid after the waiting bytes, and once a block is whole what is left
+-- stands alone, with zeros after it. So the bytes past the waiting ones are zeros where they were zeros before.
+abbrev pub pendingAfter : Md5 → List ℕ → List ℕ
+pendingAfter s part = cond (ltb (s .count % 64 + length part) 64) (overlay (s .pending) (s .count % 64) part) (filled (rest (waiting s ++ part)))
+
+-- Any state after one more part.
+unfoldable pub absorbed : Md5 → List ℕ → Md5
+absorbed s part =
     record {
-      words = whole (v .waiting ++ part) (v .words);
-      waiting = drop (length (v .waiting ++ part) / 64 * 64) (v .waiting ++ part);
-      count = v .count + length part;
+      words = whole addends (waiting s ++ part) (s .words);
+      pending = pendingAfter s part;
+      count = s .count + length part;
     }
 
--- The digest that a running state ends in.
-unfoldable pub finished : Running → List ℕ
-finished v = digestOf (whole (v .waiting ++ padding (v .count)) (v .words))
-
--- The parts of a message, one after the other.
-unfoldable pub inParts : Running → List (List ℕ) → Running
-inParts v [] = v
-inParts v (part ∷ parts) = inParts (absorbed v part) parts
-
-unfoldable pub joined : List (List ℕ) → List ℕ
-joined [] = []
-joined (part ∷ parts) = part ++ joined parts
+-- The digest that a state ends in.
+unfoldable pub finished : Md5 → List ℕ
+finished s = digestOf (whole addends (waiting s ++ padding (s .count)) (s .words))
 
 -- At most 2^48 bytes in all.
 abbrev pub tooLong : ℕ → Bool
@@ -90,8 +55,8 @@ abbrev pub limited : ℕ → Check
 limited total = refusedIf (tooLong total) hash-limit 0
 
 -- A part that would pass the limit leaves the state as it was.
-abbrev pub updated : Running → List ℕ → Running
-updated v part = cond (tooLong (v .count + length part)) v (absorbed v part)
+abbrev pub updated : Md5 → List ℕ → Md5
+updated s part = cond (tooLong (s .count + length part)) s (absorbed s part)
 
 -- The digest of a message; zeros where it is refused.
 abbrev pub digestOr0 : List ℕ → List ℕ

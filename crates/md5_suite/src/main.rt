@@ -1,11 +1,12 @@
 // Prints MD5 digests for a comparison: of the strings of RFC 1321's suite, of data of many lengths in one call, and of data
 // that comes in parts. One digest to a line.
+use text::put_hex;
 ghost use mathlib.Core.Path.{_≡_};
-ghost use Prim.Native.Nat.{_/_, _%_, _^_, _≤_, _<_, min};
+ghost use Prim.Native.Nat.{_^_, _≤_, _<_, min};
 ghost use lib.ListN.{length, take};
-ghost use Rattle.io.specs.Digits.{glyph as Digits·glyph};
+ghost use Rattle.text.specs.Text.{hex as Text·hex};
 ghost use Rattle.md5.specs.Message.{md5 as Message·md5};
-ghost use Rattle.md5_suite.specs.Suite.{dataByte, dataOf, hexOf};
+ghost use Rattle.md5_suite.specs.Suite.{dataByte, dataOf};
 
 fn least(a: usize, b: usize) -> usize
     ensures { λ r. ⌜ r ≡ min a b ⌝ }
@@ -33,40 +34,13 @@ fn fill(to: &mut [u8])
     }
 }
 
-fn glyph(d: u8) -> u8
-    requires { ⌜ d < 16 ⌝ }
-    ensures { λ r. ⌜ r ≡ Digits·glyph d ⌝ }
-{
-    if d < 10 { 48 + d } else { 87 + d }
-}
-
-// The higher hex digit of a byte.
-fn high(b: u8) -> u8
-    ensures { λ r. ⌜ r ≡ Digits·glyph (b / 16) ⌝ }
-{
-    glyph(b / 16)
-}
-
-// The lower one.
-fn low(b: u8) -> u8
-    ensures { λ r. ⌜ r ≡ Digits·glyph (b % 16) ⌝ }
-{
-    glyph(b % 16)
-}
-
 // A digest in hex digits.
 fn hex(digest: &[u8; 16]) -> [u8; 32]
-    ensures { λ r. ⌜ r ≡ hexOf 16 (now (digest .entry)) ⌝ }
+    ensures { λ r. ⌜ r ≡ Text·hex (now (digest .entry)) ⌝ }
 {
-    let mut text = [0u8; 32];
-    let mut i = 0;
-    while i < 16 {
-        let b = digest[i];
-        text[i * 2] = high(b);
-        text[i * 2 + 1] = low(b);
-        i += 1;
-    }
-    text
+    let mut digits = [0u8; 32];
+    put_hex(digest, &mut digits, 0);
+    digits
 }
 
 fn in_one_call(s: &[u8]) -> [u8; 16]

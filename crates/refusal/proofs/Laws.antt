@@ -88,6 +88,21 @@ pub from-none : (check : ℕ → Check) (i : ℕ) → firstFrom check i 0 ≡ si
 unfolding firstFrom
 from-none check i = refl
 
+-- the same of the checks from i up to n, as a loop goes through them
+module _ (check : ℕ → Check) (i n : ℕ) where
+  pub upto-said : {number place : ℕ} → i < n → check i ≡ refused number place → firstFrom check i (n - i) ≡ refused number place
+  upto-said h e = from-said check i (n - i) (omega arith) e
+
+  pub upto-quiet : i < n → check i ≡ silent → firstFrom check i (n - i) ≡ firstFrom check (i + 1) (n - (i + 1))
+  upto-quiet h e =
+      let left : n - i - 1 ≡ n - (i + 1) = omega arith in
+      from-quiet check i (n - i) (omega arith) e ∙ ap (firstFrom check (i + 1)) left
+
+  pub upto-end : n ≤ i → firstFrom check i (n - i) ≡ silent
+  upto-end h =
+      let none : n - i ≡ 0 = omega arith in
+      ap (firstFrom check i) none ∙ from-none check i
+
 -- where none speaks, each is silent
 pub from-each : (check : ℕ → Check) (i n : ℕ) → firstFrom check i n ≡ silent → (j : ℕ) → j < n → check (i + j) ≡ silent
 unfolding firstFrom

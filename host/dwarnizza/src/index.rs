@@ -252,13 +252,10 @@ mod tests {
         assert_eq!(written, text);
         assert!(rest.iter().all(|&byte| byte == 0xee));
 
-        let line = b"refused 8 at 1\n";
-        let mut output = [0xee; 15];
-        assert_eq!(
-            call(listing, &index_out_of_order(), &mut output),
-            answer(15)
-        );
-        assert_eq!(output, *line);
+        let mut output = [0xee; 60];
+        let bad = index_out_of_order();
+        assert_eq!(call(listing, &bad, &mut output), refused(INDEX_ORDER, 1));
+        assert_eq!(output, [0xee; 60]);
     }
 
     #[test]

@@ -7,58 +7,81 @@ mod random;
 use std::fs;
 use std::path::Path;
 
-use compare::{Tally, compare_outputs, refusal_at, room};
-use dwarnizza::Refusal;
+use compare::{Tally, compare_outputs, in_library_terms, refusal_at, room};
 use dwarnizza::index::{listing, listing_text};
+use dwarnizza::{Refusal, refusal};
 use forge::{IndexFile, all_settings, counted_list, for_spoilt_files, keys, random_list, settings};
 use random::Random;
 use second::index::{FOOTER, MOST_LISTED, PAGE, Settings};
 
-/// Whether the library's listing of the input fits into an output of this size, after seeing that
-/// it is this text of the second program's, or leaves the output as it was.
+/// A text, or a refusal.
+type Listing = Result<String, Refusal>;
+
+/// The second program's listing.
+fn second_listing(input: &[u8]) -> Listing {
+    second::index::listing(input).map_err(in_library_terms)
+}
+
+/// What the library's listing of the input leaves in an output of this size, after seeing that the
+/// length or the refusal is this one, and the output as it was without room or after a refusal.
 #[track_caller]
-fn compare(input: &[u8], text: &str, room: usize) -> bool {
-    let fitting = |length| {
-        if length <= room {
-            Ok(length)
-        } else {
-            Err(length)
-        }
+fn compare(input: &[u8], listed: &Listing, room: usize) -> Result<Vec<u8>, Unwritten> {
+    let fitting = |length| match length {
+        Ok(length) if length <= room => Ok(length),
+        Ok(length) => Err(Unwritten::NoRoom(length)),
+        Err(refusal) => Err(Unwritten::Refused(refusal)),
     };
-    let written = compare_outputs(
+    compare_outputs(
         room,
         |output| fitting(listing(input, output)),
         |output| {
-            let length = fitting(text.len())?;
+            let length = fitting(listed.as_ref().map(String::len).map_err(|&r| r))?;
+            let text = listed.as_ref().expect("a text fits");
             output[..length].copy_from_slice(text.as_bytes());
             Ok(length)
         },
-    );
-    written.is_ok()
+    )
 }
 
-/// Both programs list the input so, in outputs of all kinds.
+/// Why an output is as it was.
+#[derive(Debug, PartialEq)]
+enum Unwritten {
+    NoRoom(usize),
+    Refused(Refusal),
+}
+
+/// Both programs answer the input so, in outputs of all kinds.
 #[track_caller]
-fn expect(input: &[u8], text: &str) {
+fn expect(input: &[u8], listed: Listing) {
     assert!(
-        second::index::listing(input) == text,
-        "the second program gives another text"
+        second_listing(input) == listed,
+        "the second program gives another answer"
     );
-    let length = text.len();
-    for room in [0, length - 1] {
-        assert!(!compare(input, text, room));
+    let length = listed.as_ref().map_or(50, String::len);
+    for room in [0, length - 1, length, length + 1000] {
+        let written = compare(input, &listed, room);
+        assert_eq!(written.is_ok(), listed.is_ok() && length <= room);
     }
-    for room in [length, length + 1000] {
-        assert!(compare(input, text, room));
-    }
-    assert!(listing_text(input) == text, "another text is given");
+    assert!(listing_text(input) == listed, "another answer is given");
+}
+
+/// Both programs give this text.
+#[track_caller]
+fn expect_text(input: &[u8], text: &str) {
+    expect(input, Ok(text.to_string()));
+}
+
+/// Both programs refuse the input.
+#[track_caller]
+fn expect_refused(input: &[u8], number: u32, place: usize) {
+    expect(input, Err(refusal_at(number, place)));
 }
 
 #[test]
 fn the_example_of_the_paper() {
     let file = IndexFile::new(settings(1, 4), &[5, 0, 0, 0, 7, 0, 0, 0, 9]);
     let text = "index key=1 offset=4 entries=1 pages=1\n05 7 - 9\n";
-    expect(&file.bytes, text);
+    expect_text(&file.bytes, text);
 }
 
 /// The stored texts of the program's samples.
@@ -78,8 +101,13 @@ fn samples() {
         let input = fs::read(&path).expect("the sample can be read");
         let text = fs::read_to_string(path.with_extension("txt"));
         let text = text.unwrap_or_else(|error| panic!("the text of {}: {error}", path.display()));
-        expect(&input, &text);
-        tally.add(&refused(&text));
+        assert!(second::index::printed(&input) == text, "another text");
+        let listed = match refused(&text) {
+            Some(refusal) => Err(refusal),
+            None => Ok(text),
+        };
+        tally.add(&listed);
+        expect(&input, listed);
     }
     tally.print((1..=9).chain([70]));
 }
@@ -92,14 +120,14 @@ fn every_layout() {
         let counts = [0, 1, full - 1, full, full + 1, 3 * full + 7];
         for entries in counts.into_iter().filter(|&n| n <= keys(settings)) {
             let list = random_list(&mut random, settings, entries);
-            let text = second::index::listing(&IndexFile::new(settings, &list).bytes);
+            let text = text_of(&IndexFile::new(settings, &list).bytes);
             assert_eq!(text.lines().count(), 1 + entries);
             for version in 0..=1 {
                 let settings = Settings {
                     version,
                     ..settings
                 };
-                expect(&IndexFile::new(settings, &list).bytes, &text);
+                expect_text(&IndexFile::new(settings, &list).bytes, &text);
             }
         }
     }
@@ -129,7 +157,7 @@ fn numbers() {
                 list.extend(&location.to_be_bytes()[8 - usize::from(width)..]);
                 text += &format!("{key:02x} {size} {}\n", shown(width, location));
             }
-            expect(&IndexFile::new(settings(1, width), &list).bytes, &text);
+            expect_text(&IndexFile::new(settings(1, width), &list).bytes, &text);
         }
     }
 }
@@ -150,12 +178,12 @@ fn digits_of_keys() {
         let settings = settings(key_length, 4);
         let list = counted_list(settings, 256);
         let file = IndexFile::new(settings, &list).bytes;
-        let text = second::index::listing(&file);
+        let text = text_of(&file);
         for (byte, line) in text.lines().skip(1).enumerate() {
             let zeros = "00".repeat(settings.key_len() - 1);
             assert!(line.starts_with(&format!("{zeros}{byte:02x} ")), "{line}");
         }
-        expect(&file, &text);
+        expect_text(&file, &text);
     }
 }
 
@@ -167,24 +195,24 @@ fn the_limit_of_the_input() {
     let good = |entries: usize| IndexFile::new(settings, &counted_list(settings, entries)).bytes;
     let footer = good(0);
     for length in [MOST_LISTED - 1, MOST_LISTED, MOST_LISTED + 1, 1 << 20] {
-        let lines = match length > MOST_LISTED {
-            true => ["refused 70\n"; 2],
-            false => ["refused 5\n", "refused 2\n"],
+        let numbers = match length > MOST_LISTED {
+            true => [refusal::LISTING_INPUT; 2],
+            false => [refusal::INDEX_LENGTH, refusal::FOOTER_FIELD],
         };
         for filling in [vec![0; length], random.bytes(length)] {
             let ended = [&filling[..length - FOOTER], &footer].concat();
-            expect(&ended, lines[0]);
-            expect(&filling, lines[1]);
+            expect_refused(&ended, numbers[0], 0);
+            expect_refused(&filling, numbers[1], 0);
         }
     }
 
     // The most pages, and one more.
     let full = settings.entries_per_page();
     let longest = good(15 * full);
-    let text = second::index::listing(&longest);
+    let text = text_of(&longest);
     assert_eq!(text.lines().count(), 1 + 15 * full);
-    expect(&longest, &text);
-    expect(&good(15 * full + 1), "refused 70\n");
+    expect_text(&longest, &text);
+    expect_refused(&good(15 * full + 1), refusal::LISTING_INPUT, 0);
 }
 
 /// The longest text of all: the most pages of the settings with the longest lines for their
@@ -199,8 +227,8 @@ fn the_longest_text() {
             entry[settings.key_len()..].fill(0xff);
         }
         let file = IndexFile::new(settings, &list).bytes;
-        let text = second::index::listing(&file);
-        expect(&file, &text);
+        let text = text_of(&file);
+        expect_text(&file, &text);
         text.len()
     });
     let longest = lengths.max().expect("there are settings");
@@ -212,20 +240,26 @@ fn the_longest_text() {
 fn thirty_thousand_inputs() {
     let mut tally = Tally::new("inputs");
     for_spoilt_files(30_000, |random, file| {
-        let text = second::index::listing(file);
-        let room = room(random, text.len());
-        compare(file, &text, room);
-        tally.add(&refused(&text));
+        let listed = second_listing(file);
+        let room = room(random, listed.as_ref().map_or(50, String::len));
+        let _ = compare(file, &listed, room);
+        tally.add(&listed);
     });
     tally.print(1..=9);
 }
 
-/// The refusal that a text is the line of, without its place.
-fn refused(text: &str) -> Result<(), Refusal> {
-    let Some(line) = text.strip_prefix("refused ") else {
-        return Ok(());
+/// The second program's listing of an input that is not refused.
+fn text_of(input: &[u8]) -> String {
+    second_listing(input).expect("the input is listed")
+}
+
+/// The refusal that a printed text is the line of.
+fn refused(text: &str) -> Option<Refusal> {
+    let mut words = text.strip_prefix("refused ")?.split_whitespace();
+    let number = words.next()?.parse().expect("a number follows");
+    let place = match words.next() {
+        Some(_at) => words.next()?.parse().expect("a place follows"),
+        None => 0,
     };
-    let number = line.split_whitespace().next().expect("a number follows");
-    let number = number.parse().expect("a number follows");
-    Err(refusal_at(number, 0))
+    Some(refusal_at(number, place))
 }

@@ -7,7 +7,7 @@ mod lookup;
 mod write;
 
 pub use check::{check, list};
-pub use listing::{MOST_LISTED, listing};
+pub use listing::{MOST_LISTED, listing, printed};
 pub use lookup::{Found, Lookup, bound, lookup};
 pub use write::write;
 

@@ -29,9 +29,9 @@ fn main() -> ExitCode {
     }
 }
 
-/// The listing of what stands on standard input.
+/// What the listing program prints for what stands on standard input.
 fn listing() -> io::Result<String> {
     let mut input = Vec::new();
     io::stdin().read_to_end(&mut input)?;
-    Ok(index::listing(&input))
+    Ok(index::printed(&input))
 }

@@ -3,7 +3,7 @@
 
 use second::index::{
     FOOTER, Index, Lookup, MOST_ENTRIES, MOST_LISTED, PAGE, Settings, bound, check, list, listing,
-    lookup, write,
+    lookup, printed, write,
 };
 use second::refusal::{self, Refusal};
 
@@ -259,13 +259,17 @@ fn a_lookup_makes_only_its_own_checks() {
 
 #[test]
 fn listings() {
+    let expect = |file: &[u8], text: &str| {
+        assert_eq!(listing(file).as_deref(), Ok(text));
+        assert_eq!(printed(file), text);
+    };
     let paper = file(K1_W4, &[5, 0, 0, 0, 7, 0, 0, 0, 9]);
     let text = "index key=1 offset=4 entries=1 pages=1\n05 7 - 9\n";
-    assert_eq!(listing(&paper), text);
+    expect(&paper, text);
 
     let five = file(settings(2, 5), &[0xab, 0, 0, 0, 0, 0, 1, 0, 0, 0, 2]);
     let text = "index key=2 offset=5 entries=1 pages=1\nab00 0 - 4294967298\n";
-    assert_eq!(listing(&five), text);
+    expect(&five, text);
 
     let six = [
         [0, 0, 1, 0, 0, 0x12, 0x34, 0, 0, 0, 9],
@@ -274,14 +278,14 @@ fn listings() {
     let six = file(settings(1, 6), six.as_flattened());
     let text =
         "index key=1 offset=6 entries=2 pages=1\n00 65536 4660 9\nff 4294967295 0 4294967295\n";
-    assert_eq!(listing(&six), text);
+    expect(&six, text);
 
     let none = file(K16_W4, &[]);
     let text = "index key=16 offset=4 entries=0 pages=0\n";
-    assert_eq!(listing(&none), text);
+    expect(&none, text);
 
     let three = file(K16_W4, &counted_list(K16_W4, 341, 0, 1));
-    let text = listing(&three);
+    let text = listing(&three).unwrap();
     assert!(text.starts_with("index key=16 offset=4 entries=341 pages=3\n"));
     assert!(text.ends_with("\n00000000000000000000000000000154 340 - 2380\n"));
     assert_eq!(text.lines().count(), 342);
@@ -289,22 +293,27 @@ fn listings() {
 
 #[test]
 fn listings_that_are_refused() {
-    assert_eq!(listing(&[]), "refused 1\n");
+    let expect = |file: &[u8], refusal, line: &str| {
+        assert_eq!(listing(file), Err(refusal));
+        assert_eq!(printed(file), line);
+    };
+    expect(&[], refusal::INDEX_TOO_SHORT, "refused 1\n");
     let list = counted_list(K16_W4, 171, 0, 1);
     let good = file(K16_W4, &list);
-    for (place, line) in [
-        (PAGE - 1, "refused 6 at 0\n"),
-        (2 * PAGE - 1, "refused 6 at 1\n"),
-        (2 * PAGE + 31, "refused 9 at 1\n"),
-        (good.len() - 1, "refused 3\n"),
+    for (place, refusal, line) in [
+        (PAGE - 1, refusal::page_hash(0), "refused 6 at 0\n"),
+        (2 * PAGE - 1, refusal::page_hash(1), "refused 6 at 1\n"),
+        (2 * PAGE + 31, refusal::last_key(1), "refused 9 at 1\n"),
+        (good.len() - 1, refusal::FOOTER_HASH, "refused 3\n"),
     ] {
         let mut bad = good.clone();
         bad[place] ^= 1;
-        assert_eq!(listing(&bad), line);
+        expect(&bad, refusal, line);
     }
 
     // No index is as long as the limit.
     let limit = [vec![0; MOST_LISTED - FOOTER], file(K16_W4, &[])].concat();
-    assert_eq!(listing(&limit), "refused 5\n");
-    assert_eq!(listing(&vec![0; MOST_LISTED + 1]), "refused 70\n");
+    expect(&limit, refusal::FILE_LENGTH, "refused 5\n");
+    let longer = vec![0; MOST_LISTED + 1];
+    expect(&longer, refusal::LISTING_INPUT, "refused 70\n");
 }

@@ -37,8 +37,8 @@ returns-2 c =
     let v = c .before .before .before .before .before .check-fields in
     c .refuse .ensures ∙ sym (skip (passed-is (v .result) _ (v .ensures) (c .before .before .before .enum-told2 .given .1)) (first-said _ (said (c .before .before .footer-hash-right .ensures) (c .before .if1 .taken))))
 
-little-requires : tie.Need-little-requires
-little-requires c κs = search needs
+entry-count-requires : tie.Need-entry-count-requires
+entry-count-requires c κs = search needs
 
 refuse-requires-2 : tie.Need-refuse-requires-2
 refuse-requires-2 c κs = search needs
@@ -49,14 +49,14 @@ returns-3 c =
     let v = c .before .before .before .before .before .before .before .check-fields in
     c .refuse2 .ensures
     ∙ sym (skip (passed-is (v .result) _ (v .ensures) (c .before .before .before .before .before .enum-told2 .given .1))
-    (skip (quiet footer-hash 0 (c .before .before .before .before .footer-hash-right .ensures) (c .before .before .before .if1 .left)) (said refl (rw (← c .before .before .little .ensures) (lt-ltb 8388608 (c .before .before .little .result) (c .before .if2 .taken))))))
+    (skip (quiet footer-hash 0 (c .before .before .before .before .footer-hash-right .ensures) (c .before .before .before .if1 .left)) (said refl (rw (← c .before .before .entry-count .ensures) (lt-ltb 8388608 (c .before .before .entry-count .result) (c .before .if2 .taken))))))
 
 returns-4 : tie.Need-returns-4
 unfolding checkOf footerCheck
 returns-4 c =
     let v = c .before .before .before .before .before .before .check-fields in
     sym (skip (passed-is (v .result) _ (v .ensures) (c .before .before .before .before .enum-told2 .given .1))
-    (skip (quiet footer-hash 0 (c .before .before .before .footer-hash-right .ensures) (c .before .before .if1 .left)) (quiet entry-count 0 refl (rw (← c .before .little .ensures) (le-ltb 8388608 (c .before .little .result) (c .if2 .left))))))
+    (skip (quiet footer-hash 0 (c .before .before .before .footer-hash-right .ensures) (c .before .before .if1 .left)) (quiet entry-count 0 refl (rw (← c .before .entry-count .ensures) (le-ltb 8388608 (c .before .entry-count .result) (c .if2 .left))))))
 
 pub check-footer-spec : {M : Type 1} → statement M
 check-footer-spec =
@@ -69,7 +69,7 @@ check-footer-spec =
     footer-hash-right-requires
     refuse-requires
     returns-2
-    little-requires
+    entry-count-requires
     refuse-requires-2
     returns-3
     returns-4)

@@ -13,8 +13,8 @@ byte-requires-2 c κs = search needs
 byte-requires-3 : tie.Need-byte-requires-3
 byte-requires-3 c κs = search needs
 
-little-requires : tie.Need-little-requires
-little-requires c κs = search needs
+entry-count-requires : tie.Need-entry-count-requires
+entry-count-requires c κs = search needs
 
 cast-entries : tie.Need-cast-entries
 cast-entries c = search needs
@@ -25,7 +25,7 @@ new-requires c κs = search needs
 returns : tie.Need-returns
 unfolding layoutFrom
 returns c =
-    rw (c .new .ensures, c .before .little .ensures, c .before .before .byte3 .ensures, c .before .before .before .byte2 .ensures, c .before .before .before .before .byte .ensures)
+    rw (c .new .ensures, c .before .entry-count .ensures, c .before .before .byte3 .ensures, c .before .before .before .byte2 .ensures, c .before .before .before .before .byte .ensures)
 
 pub read-layout-spec : {M : Type 1} → statement M
 read-layout-spec =
@@ -34,7 +34,7 @@ read-layout-spec =
     byte-requires
     byte-requires-2
     byte-requires-3
-    little-requires
+    entry-count-requires
     cast-entries
     new-requires
     returns)

@@ -1,9 +1,19 @@
--- `list_index::main`: the output has room for any listing.
-use mathlib.Core.Path.{sym}
+-- `list_index::main`: what is printed stands in the output.
+use mathlib.Core.Path.{_≡_, sym, ap}
+use mathlib.Core.List.{List}
+use Prim.Native.Nat.{ℕ, _≤_}
+use native.Mathlib.Omega.{arith}
+use lib.ListN.{length, drop, length-append}
 use lib.Seq.{length-take-le}
 use borrow.Author.Needs.{needs}
+use Rattle.refusal.specs.Check.{silent}
+use Rattle.refusal.specs.Output.{filled}
 use Rattle.list_index.proofs.main.Statement.{statement}
 use Rattle.list_index.proofs.main.Tie as tie
+
+inside : (text out last : List ℕ) (n : ℕ) → n ≡ length text → last ≡ filled silent text out → n ≤ length last
+unfolding filled
+inside text out last n e f = omega (arith, ap length f, length-append text (drop (length text) out))
 
 input-room-requires : tie.Need-input-room-requires
 input-room-requires c κs = search needs
@@ -20,22 +30,19 @@ output-room-requires c κs = search needs
 array-share-prefix-input : tie.Need-array-share-prefix-input
 array-share-prefix-input c = search needs
 
-slice-aggregate-listing : tie.Need-slice-aggregate-listing
-slice-aggregate-listing c = search needs
+slice-aggregate-print : tie.Need-slice-aggregate-print
+slice-aggregate-print c = search needs
 
-slice-aggregate-listing-2 : tie.Need-slice-aggregate-listing-2
-slice-aggregate-listing-2 c = search needs
-
-listing-requires : tie.Need-listing-requires
-listing-requires c κs = search needs
+print-requires : tie.Need-print-requires
+print-requires c κs = search needs
 
 array-share-prefix-output : tie.Need-array-share-prefix-output
-array-share-prefix-output c = search needs
+array-share-prefix-output c = inside _ _ _ _ (c .print .ensures .0) (c .print .ensures .1)
 
 slice-aggregate-write-all : tie.Need-slice-aggregate-write-all
 slice-aggregate-write-all c =
-    let l = c .before .before .listing in
-    sym (length-take-le (l .result) (l .last .1 .0) (search needs))
+    let l = c .before .print in
+    sym (length-take-le (l .result) (l .last .1 .0) (inside _ _ _ _ (l .ensures .0) (l .ensures .1)))
 
 write-all-requires : tie.Need-write-all-requires
 write-all-requires c κs = search needs
@@ -52,9 +59,8 @@ main-spec =
     read-full-requires
     output-room-requires
     array-share-prefix-input
-    slice-aggregate-listing
-    slice-aggregate-listing-2
-    listing-requires
+    slice-aggregate-print
+    print-requires
     array-share-prefix-output
     slice-aggregate-write-all
     write-all-requires

@@ -1,5 +1,6 @@
 -- `listing::check`: 70, then the full check.
 use mathlib.Core.Path.{refl, sym, ap, _∙_}
+use native.Mathlib.Omega.{arith}
 use lib.ListN.{length}
 use borrow.Author.Needs.{needs}
 use borrow.Author.Tests.{lt-ltb, le-ltb}
@@ -17,7 +18,7 @@ returns : tie.Need-returns
 unfolding outcome listingCheck
 returns c =
     let s = c .before .before .args .input .now in
-    sym (after-said (answered (layoutValues (layoutOf s))) (first-said (fullCheck s) (said refl (lt-ltb 65536 (length s) (c .if1 .taken)))))
+    sym (after-said (answered (layoutValues (layoutOf s))) (first-said (fullCheck s) (said refl (lt-ltb 65536 (length s) (omega arith)))))
 
 check-requires : tie.Need-check-requires
 check-requires c κs = search needs
@@ -27,7 +28,7 @@ unfolding listingCheck
 returns-2 c =
     let s = c .before .before .before .args .input .now in
     c .check .ensures
-    ∙ sym (ap (λ k. after k (answered (layoutValues (layoutOf s)))) (first-quiet (fullCheck s) (quiet listing-input 0 refl (le-ltb 65536 (length s) (c .before .if1 .left)))))
+    ∙ sym (ap (λ k. after k (answered (layoutValues (layoutOf s)))) (first-quiet (fullCheck s) (quiet listing-input 0 refl (le-ltb 65536 (length s) (omega arith)))))
 
 pub check-spec : {M : Type 1} → statement M
 check-spec = tie.close (tie.spec returns check-requires returns-2)

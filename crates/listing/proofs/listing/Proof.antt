@@ -1,50 +1,81 @@
--- `listing::listing`: the text is measured, and put where it has room.
-use mathlib.Core.Path.{_≡_, _∙_}
-use native.Mathlib.Nat.{zero-add}
+-- `listing::listing`: a refusal as it is; else the text is measured, and put where it has room.
+use mathlib.Core.Path.{sym, ap, _∙_}
+use mathlib.Core.List.{[], _∷_}
 use native.Mathlib.Omega.{arith}
-use lib.ListN.{length}
 use borrow.Author.Needs.{needs}
-use Rattle.listing.specs.Listing.{text}
-use Rattle.listing.proofs.Most.{text-most}
-use Rattle.listing.proofs.Laws.{fitted-whole, fitted-none}
+use Rattle.refusal.specs.Outcome.{answered}
+use Rattle.refusal.specs.Output.{filled}
+use Rattle.refusal.proofs.Laws.{after-said, after-quiet}
+use Rattle.index_layout.specs.Layout.{layoutOf}
+use Rattle.index_open.proofs.Laws.{refused-index}
+use Rattle.text.proofs.PutLaws.{told, put-same}
+use Rattle.listing.specs.Listing.{textOf, listingCheck, outcome, fitted}
+use Rattle.listing.proofs.Laws.{Listable, listable, measured, fitted-whole, fitted-none}
 use Rattle.listing.proofs.listing.Statement.{statement}
 use Rattle.listing.proofs.listing.Tie as tie
 
+passed : (c : tie.After-l) → Listable (c .before .before .before .before .before .args .input .now) (c .l .given .0 .0)
+passed c = listable _ _ _ (c .before .before .check .ensures) (c .l .given .1)
+
 check-requires : tie.Need-check-requires
 check-requires c κs = search needs
+
+enum-known-r : tie.Need-enum-known-r
+enum-known-r c = search needs
+
+enum-known-l : tie.Need-enum-known-l
+enum-known-l c = search needs
 
 slice-aggregate-put-text : tie.Need-slice-aggregate-put-text
 slice-aggregate-put-text c = search needs
 
 put-text-requires : tie.Need-put-text-requires
-put-text-requires c κs = search needs
+put-text-requires c κs = passed (c .before .before) .width
 
 put-text-requires-2 : tie.Need-put-text-requires-2
-put-text-requires-2 c κs = search needs
+put-text-requires-2 c κs = passed (c .before .before .before .before .before .before) .width
+
+returns : tie.Need-returns
+unfolding outcome fitted filled
+returns c =
+    let s = c .before .before .before .before .before .before .args .input .now in
+    let k = c .before .before .before .check in
+    let e = refused-index (listingCheck s) (layoutOf s) (k .result) (k .ensures) (c .before .r .given .1) in
+    (sym (after-said _ e), sym (ap (λ t. fitted t (textOf s) (c .before .before .before .before .before .before .args .output .now)) e))
 
 same-length : tie.Need-same-length
 same-length c = search needs
 
-returns : tie.Need-returns
-returns c =
-    let a = c .before .before .before .before .before .before .before .before .before .before .before .args in
-    let size : c .before .before .before .before .before .before .put-text .result ≡ length (text (a .input .now)) = c .before .before .before .before .before .before .put-text .ensures .end ∙ zero-add (length (text (a .input .now))) in
-    (size, (fitted-whole (a .output .now) (text (a .input .now)) _ _ (c .before .before .put-text2 .ensures) (omega (arith, c .before .before .before .before .if1 .taken)), omega (arith, text-most (a .input .now))))
-
 returns-2 : tie.Need-returns-2
+unfolding outcome
 returns-2 c =
-    let a = c .before .before .before .before .before .before .before .args in
-    let size : c .before .before .put-text .result ≡ length (text (a .input .now)) = c .before .before .put-text .ensures .end ∙ zero-add (length (text (a .input .now))) in
-    (size, (fitted-none (a .output .now) (text (a .input .now)) (omega (arith, c .if1 .left)), omega (arith, text-most (a .input .now))))
+    let s = c .before .before .before .before .before .before .before .before .before .before .before .before .before .before .args .input .now in
+    let i = passed (c .before .before .before .before .before .before .before .before .before) in
+    let length-is = measured s _ i _ _ _ (told _ _ _ _ _ (c .before .before .before .before .before .before .put-text .ensures)) in
+    let put = put-same (told _ _ _ _ _ (c .before .before .put-text2 .ensures)) (i .whole) in
+    let e = sym (ap (λ t. fitted t (textOf s) (c .before .before .before .before .before .before .before .before .before .before .before .before .before .before .args .output .now)) (i .quiet)) in
+    (ap (λ n. answered (n ∷ [])) length-is ∙ sym (after-quiet _ (i .quiet)), fitted-whole _ (textOf s) _ _ put (omega (arith, c .before .before .before .before .if1 .taken)) ∙ e)
+
+returns-3 : tie.Need-returns-3
+unfolding outcome
+returns-3 c =
+    let s = c .before .before .before .before .before .before .before .before .before .before .args .input .now in
+    let i = passed (c .before .before .before .before .before) in
+    let length-is = measured s _ i _ _ _ (told _ _ _ _ _ (c .before .before .put-text .ensures)) in
+    let e = sym (ap (λ t. fitted t (textOf s) (c .before .before .before .before .before .before .before .before .before .before .args .output .now)) (i .quiet)) in
+    (ap (λ n. answered (n ∷ [])) length-is ∙ sym (after-quiet _ (i .quiet)), fitted-none _ (textOf s) (omega (arith, c .if1 .left)) ∙ e)
 
 pub listing-spec : {M : Type 1} → statement M
 listing-spec =
     tie.close
     (tie.spec
     check-requires
+    enum-known-r
+    enum-known-l
     slice-aggregate-put-text
     put-text-requires
     put-text-requires-2
-    same-length
     returns
-    returns-2)
+    same-length
+    returns-2
+    returns-3)

@@ -1,10 +1,8 @@
--- `listing::put_line`: key, size and location of an entry, one text after the other.
+-- `listing::put_line`: key, size and location of an entry are read.
 use native.Mathlib.Omega.{arith}
 use borrow.Author.Needs.{needs}
 use Rattle.lookup.proofs.Laws.{entry-fits}
-use Rattle.listing.specs.Text.{ascii}
-use Rattle.listing.proofs.PutLaws.{put-next, put-same}
-use Rattle.listing.proofs.Lines.{line-is, line-ends}
+use Rattle.listing.proofs.Lines.{line-is}
 use Rattle.listing.proofs.put_line.Statement.{statement}
 use Rattle.listing.proofs.put_line.Tie as tie
 
@@ -19,6 +17,9 @@ add-big c =
     let a = c .before .before .before .before .args in
     omega (arith, entry-fits (a .l) (a .page .0) (a .slot .0) _ (c .entry-at .ensures) (search needs) (search needs) (search needs) (search needs))
 
+cast-big : tie.Need-cast-big
+cast-big c = search needs
+
 big-requires : tie.Need-big-requires
 big-requires c κs = search needs
 
@@ -27,13 +28,16 @@ add-big-2 c =
     let a = c .before .before .before .before .before .args in
     omega (arith, entry-fits (a .l) (a .page .0) (a .slot .0) _ (c .before .entry-at .ensures) (search needs) (search needs) (search needs) (search needs))
 
+cast-big-2 : tie.Need-cast-big-2
+cast-big-2 c = search needs
+
 add-big-3 : tie.Need-add-big-3
 add-big-3 c =
     let a = c .before .before .before .before .before .args in
     omega (arith, entry-fits (a .l) (a .page .0) (a .slot .0) _ (c .before .entry-at .ensures) (search needs) (search needs) (search needs) (search needs))
 
-cast-big : tie.Need-cast-big
-cast-big c = search needs
+cast-big-3 : tie.Need-cast-big-3
+cast-big-3 c = search needs
 
 big-requires-2 : tie.Need-big-requires-2
 big-requires-2 c κs = search needs
@@ -41,42 +45,16 @@ big-requires-2 c κs = search needs
 part-requires : tie.Need-part-requires
 part-requires c κs = search needs
 
-put-hex-requires : tie.Need-put-hex-requires
-put-hex-requires c κs =
-    let start = c .before .before .before .before .before .before .before .before .before in
-    omega (arith, start .pre .1, line-ends (start .args .index .now) (start .args .l) (start .args .page .0) (start .args .slot .0) _ (c .before .before .before .before .before .entry-at .ensures) (start .pre .0) _ _ _ (c .before .part .ensures) (c .before .before .before .before .big .ensures) (c .before .before .big2 .ensures))
-
-slice-aggregate-put-number : tie.Need-slice-aggregate-put-number
-slice-aggregate-put-number c = search needs
-
-put-number-requires : tie.Need-put-number-requires
-put-number-requires c κs =
-    let start = c .before .before .before .before .before .before .before .before .before .before .before .before .before .before in
-    omega (arith, start .pre .1, line-ends (start .args .index .now) (start .args .l) (start .args .page .0) (start .args .slot .0) _ (c .before .before .before .before .before .before .before .before .before .before .entry-at .ensures) (start .pre .0) _ _ _ (c .before .before .before .before .before .before .part .ensures) (c .before .before .before .before .before .before .before .before .before .big .ensures) (c .before .before .before .before .before .before .before .big2 .ensures), c .before .before .before .before .put-hex .ensures .end)
-
-put-location-requires : tie.Need-put-location-requires
-put-location-requires c κs =
-    let start = c .before .before .before .before .before .before .before .before .before .before .before .before .before .before .before .before .before .before in
-    omega (arith, start .pre .1, line-ends (start .args .index .now) (start .args .l) (start .args .page .0) (start .args .slot .0) _ (c .before .before .before .before .before .before .before .before .before .before .before .before .before .before .entry-at .ensures) (start .pre .0) _ _ _ (c .before .before .before .before .before .before .before .before .before .before .part .ensures) (c .before .before .before .before .before .before .before .before .before .before .before .before .before .big .ensures) (c .before .before .before .before .before .before .before .before .before .before .before .big2 .ensures), c .before .before .before .before .before .before .before .before .put-hex .ensures .end, c .before .before .before .put-number .ensures .end)
-
-slice-aggregate-put : tie.Need-slice-aggregate-put
-slice-aggregate-put c = search needs
-
-put-requires : tie.Need-put-requires
-put-requires c κs =
-    let start = c .before .before .before .before .before .before .before .before .before .before .before .before .before .before .before .before .before .before .before .before .before .before .before in
-    omega (arith, start .pre .1, line-ends (start .args .index .now) (start .args .l) (start .args .page .0) (start .args .slot .0) _ (c .before .before .before .before .before .before .before .before .before .before .before .before .before .before .before .before .before .before .before .entry-at .ensures) (start .pre .0) _ _ _ (c .before .before .before .before .before .before .before .before .before .before .before .before .before .before .before .part .ensures) (c .before .before .before .before .before .before .before .before .before .before .before .before .before .before .before .before .before .before .big .ensures) (c .before .before .before .before .before .before .before .before .before .before .before .before .before .before .before .before .big2 .ensures), c .before .before .before .before .before .before .before .before .before .before .before .before .before .put-hex .ensures .end, c .before .before .before .before .before .before .before .before .put-number .ensures .end, c .before .before .before .before .put-location .ensures .end)
+put-entry-requires : tie.Need-put-entry-requires
+put-entry-requires c κs = search needs
 
 same-length : tie.Need-same-length
 same-length c = search needs
 
 returns : tie.Need-returns
-unfolding ascii
 returns c =
-    let start = c .before .before .before .before .before .before .before .before .before .before .before .before .before .before .before .before .before .before .before .before .before .before .before .before .before .before in
-    put-same
-    (put-next (put-next (put-next (c .before .before .before .before .before .before .before .before .before .before .before .before .before .before .before .before .put-hex .ensures) (c .before .before .before .before .before .before .before .before .before .before .before .put-number .ensures)) (c .before .before .before .before .before .before .before .put-location .ensures)) (c .before .before .put .ensures))
-    (line-is (start .args .index .now) (start .args .l) (start .args .page .0) (start .args .slot .0) _ (c .before .before .before .before .before .before .before .before .before .before .before .before .before .before .before .before .before .before .before .before .before .before .entry-at .ensures) (start .pre .0) _ _ _ (c .before .before .before .before .before .before .before .before .before .before .before .before .before .before .before .before .before .before .part .ensures) (c .before .before .before .before .before .before .before .before .before .before .before .before .before .before .before .before .before .before .before .before .before .big .ensures) (c .before .before .before .before .before .before .before .before .before .before .before .before .before .before .before .before .before .before .before .big2 .ensures))
+    let start = c .before .before .before .before .before .before .before .before .before .before .before .before in
+    rw (line-is (start .args .index .now) (start .args .l) (start .args .page .0) (start .args .slot .0) _ (c .before .before .before .before .before .before .before .before .entry-at .ensures) (start .pre) _ _ _ (c .before .before .before .before .part .ensures) (c .before .before .before .before .before .before .before .big .ensures) (c .before .before .before .before .before .big2 .ensures)) at (c .before .before .put-entry .ensures)
 
 pub put-line-spec : {M : Type 1} → statement M
 put-line-spec =
@@ -85,17 +63,14 @@ put-line-spec =
     cast-key
     entry-at-requires
     add-big
+    cast-big
     big-requires
     add-big-2
+    cast-big-2
     add-big-3
-    cast-big
+    cast-big-3
     big-requires-2
     part-requires
-    put-hex-requires
-    slice-aggregate-put-number
-    put-number-requires
-    put-location-requires
-    slice-aggregate-put
-    put-requires
+    put-entry-requires
     same-length
     returns)

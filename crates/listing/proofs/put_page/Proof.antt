@@ -6,9 +6,8 @@ use borrow.Author.Needs.{needs}
 use Rattle.parts.specs.Part.{partsFrom}
 use Rattle.index_layout.specs.Layout.{onPage}
 use Rattle.index_layout.proofs.Laws.{on-page-most}
-use Rattle.listing.specs.Put.{Put}
 use Rattle.listing.specs.Listing.{line, pageText}
-use Rattle.listing.proofs.PutLaws.{put-none, put-same, put-length, put-part, part-ends}
+use Rattle.text.proofs.PutLaws.{both, told, Put, put-none, put-same, put-length, put-part}
 use Rattle.listing.proofs.put_page.Statement.{statement}
 use Rattle.listing.proofs.put_page.Tie as tie
 
@@ -24,7 +23,7 @@ on-page-requires c κs = search needs
 
 loop-holds : tie.Need-loop-holds Inv-loop μ-loop
 unfolding partsFrom
-loop-holds c = (search needs, put-none _ _)
+loop-holds c = (search needs, put-none _ _ (search needs))
 
 cast-t10 : tie.Need-cast-t10 Inv-loop μ-loop
 cast-t10 c =
@@ -32,14 +31,7 @@ cast-t10 c =
     omega (arith, c .before .before .on-page .ensures, on-page-most (start .args .l) (start .args .page .0))
 
 put-line-requires : tie.Need-put-line-requires Inv-loop μ-loop
-unfolding pageText
-put-line-requires c κs =
-    let start = c .before .before .before .before .before .before in
-    let l = c .before .before .loop in (
-      start .pre .0,
-      part-ends (line (start .args .index .now) (start .args .l) (start .args .page .0)) (l .i) (onPage (start .args .l) (start .args .page .0))
-          (rw (c .before .before .before .on-page .ensures) at (c .before .loop-test .taken)) (start .pre .1) (l .inv .1),
-    )
+put-line-requires c κs = search needs
 
 add-i : tie.Need-add-i Inv-loop μ-loop
 add-i c = search needs
@@ -48,7 +40,7 @@ loop-less : tie.Need-loop-less Inv-loop μ-loop
 loop-less c = search needs
 
 loop-again : tie.Need-loop-again Inv-loop μ-loop
-loop-again c = (search needs, put-part _ _ (c .before .before .before .before .before .loop .inv .1) (c .before .before .put-line .ensures))
+loop-again c = (search needs, put-part _ _ (search needs) (c .before .before .before .before .before .loop .inv .1) (told _ _ _ _ _ (c .before .before .put-line .ensures)))
 
 same-length : tie.Need-same-length Inv-loop μ-loop
 same-length c = put-length (c .before .loop .inv .1)
@@ -59,7 +51,7 @@ returns c =
     let start = c .before .before .before .before .before in
     let l = c .before .loop in
     let all : l .i ≡ onPage (start .args .l) (start .args .page .0) = omega (arith, c .before .before .on-page .ensures) in
-    put-same (l .inv .1) (ap (partsFrom (line (start .args .index .now) (start .args .l) (start .args .page .0)) 0) all)
+    both (put-same (l .inv .1) (ap (partsFrom (line (start .args .index .now) (start .args .l) (start .args .page .0)) 0) all))
 
 pub put-page-spec : {M : Type 1} → statement M
 put-page-spec =

@@ -4,9 +4,8 @@ use Prim.Native.Nat.{_-_, _≤_}
 use native.Mathlib.Omega.{arith}
 use borrow.Author.Needs.{needs}
 use Rattle.parts.specs.Part.{partsFrom}
-use Rattle.listing.specs.Put.{Put}
 use Rattle.listing.specs.Listing.{pageText, pagesText}
-use Rattle.listing.proofs.PutLaws.{put-none, put-same, put-length, put-part, part-ends}
+use Rattle.text.proofs.PutLaws.{both, told, Put, put-none, put-same, put-length, put-part}
 use Rattle.listing.proofs.put_pages.Statement.{statement}
 use Rattle.listing.proofs.put_pages.Tie as tie
 
@@ -19,14 +18,10 @@ abbrev μ-loop : tie.MeasureT-loop
 
 loop-holds : tie.Need-loop-holds Inv-loop μ-loop
 unfolding partsFrom
-loop-holds c = (search needs, put-none _ _)
+loop-holds c = (search needs, put-none _ _ (search needs))
 
 put-page-requires : tie.Need-put-page-requires Inv-loop μ-loop
-unfolding pagesText
-put-page-requires c κs =
-    let start = c .before .before .before .before .before in
-    let l = c .before .before .loop in
-    (start .pre .0, part-ends (pageText (start .args .index .now) (start .args .l)) (l .p) (start .args .l .pages) (c .before .loop-test .taken) (start .pre .1) (l .inv .1))
+put-page-requires c κs = search needs
 
 add-p : tie.Need-add-p Inv-loop μ-loop
 add-p c = search needs
@@ -35,7 +30,7 @@ loop-less : tie.Need-loop-less Inv-loop μ-loop
 loop-less c = search needs
 
 loop-again : tie.Need-loop-again Inv-loop μ-loop
-loop-again c = (search needs, put-part _ _ (c .before .before .before .before .before .loop .inv .1) (c .before .before .put-page .ensures))
+loop-again c = (search needs, put-part _ _ (search needs) (c .before .before .before .before .before .loop .inv .1) (told _ _ _ _ _ (c .before .before .put-page .ensures)))
 
 same-length : tie.Need-same-length Inv-loop μ-loop
 same-length c = put-length (c .before .loop .inv .1)
@@ -46,7 +41,7 @@ returns c =
     let start = c .before .before .before .before in
     let l = c .before .loop in
     let all : l .p ≡ start .args .l .pages = omega arith in
-    put-same (l .inv .1) (ap (partsFrom (pageText (start .args .index .now) (start .args .l)) 0) all)
+    both (put-same (l .inv .1) (ap (partsFrom (pageText (start .args .index .now) (start .args .l)) 0) all))
 
 pub put-pages-spec : {M : Type 1} → statement M
 put-pages-spec =

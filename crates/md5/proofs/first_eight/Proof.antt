@@ -1,58 +1,48 @@
--- `md5::first_eight`: the first eight bytes of what `digest` answers.
-use mathlib.Core.Path.{_≡_, ap, _∙_}
-use Prim.Native.Nat.{_+_, _≤_}
-use native.Mathlib.Omega.{arith}
+-- `md5::first_eight`: the first eight bytes of the digest, or refusal 50.
+use mathlib.Core.Path.{_≡_, sym, ap, _∙_}
+use mathlib.Core.Bool.{true, false}
+use native.Mathlib.Nat.{zero-add}
 use lib.ListN.{length, take}
-use Rattle.md5.proofs.MessageLaws.{bytes-from}
+use Rattle.refusal.specs.Check.{refusedIf, checkOf}
+use Rattle.md5.specs.Message.{tooLong}
+use Rattle.md5.proofs.MessageLaws.{digest-told}
 use borrow.Author.Needs.{needs}
 use Rattle.md5.proofs.first_eight.Statement.{statement}
 use Rattle.md5.proofs.first_eight.Tie as tie
 
-digest-requires : tie.Need-digest-requires
-digest-requires c κs = search needs
+within-requires : tie.Need-within-requires
+within-requires c κs = search needs
 
-array-read-t7 : tie.Need-array-read-t7
-array-read-t7 c = search needs
-
-array-read-t10 : tie.Need-array-read-t10
-array-read-t10 c = search needs
-
-array-read-t13 : tie.Need-array-read-t13
-array-read-t13 c = search needs
-
-array-read-t16 : tie.Need-array-read-t16
-array-read-t16 c = search needs
-
-array-read-t19 : tie.Need-array-read-t19
-array-read-t19 c = search needs
-
-array-read-t22 : tie.Need-array-read-t22
-array-read-t22 c = search needs
-
-array-read-t25 : tie.Need-array-read-t25
-array-read-t25 c = search needs
-
-array-read-t28 : tie.Need-array-read-t28
-array-read-t28 c = search needs
+refuse-requires : tie.Need-refuse-requires
+refuse-requires c κs = search needs
 
 returns : tie.Need-returns
+unfolding refusedIf
 returns c =
-    let d = c .before .digest in
-    let size : length (d .result .bytes) ≡ 16 = search needs in
-    let long : 0 + 8 ≤ length (d .result .bytes) = omega arith in
-    (d .ensures .0, bytes-from 8 0 (d .result .bytes) long ∙ ap (take 8) (d .ensures .1))
+    let n = length (c .before .before .before .before .args .message .now) in
+    let e : tooLong n ≡ true = ap tooLong (sym (zero-add n)) ∙ c .before .before .within .ensures ∙ c .before .if1 .taken in
+    (c .refuse .ensures ∙ rw e, rw e)
+
+words-after-requires : tie.Need-words-after-requires
+words-after-requires c κs = search needs
+
+eight-requires : tie.Need-eight-requires
+eight-requires c κs = search needs
+
+returns-2 : tie.Need-returns-2
+unfolding refusedIf checkOf
+returns-2 c =
+    let m = c .before .before .before .before .before .args .message .now in
+    let e : tooLong (length m) ≡ false = ap tooLong (sym (zero-add (length m))) ∙ c .before .before .before .within .ensures ∙ c .before .before .if1 .left in
+    (rw e, digest-told (take 8) m _ _ e (c .before .words-after .ensures) (c .eight .ensures))
 
 pub first-eight-spec : {M : Type 1} → statement M
 first-eight-spec =
     tie.close
     (tie.spec
-    digest-requires
-    array-read-t7
-    array-read-t10
-    array-read-t13
-    array-read-t16
-    array-read-t19
-    array-read-t22
-    array-read-t25
-    array-read-t28
-    returns)
+    within-requires
+    refuse-requires
+    returns
+    words-after-requires
+    eight-requires
+    returns-2)

@@ -5,13 +5,14 @@ use native.Mathlib.Omega.{arith}
 use lib.ListN.{length, take}
 use lib.Seq.{take-all}
 use borrow.Author.Needs.{needs}
-use Rattle.md5.specs.Message.{started, absorbed, finished, running}
-use Rattle.md5_suite.proofs.Laws.{none-absorbed, part-more, all-absorbed}
+use Rattle.md5.specs.Message.{stateAfter, finished}
+use Rattle.md5.proofs.Cutting.{fresh-is, state-end}
+use Rattle.md5_suite.proofs.Laws.{part-more}
 use Rattle.md5_suite.proofs.in_parts.Statement.{statement}
 use Rattle.md5_suite.proofs.in_parts.Tie as tie
 
 abbrev Inv-loop : tie.InvT-loop
-Inv-loop s size state₀ at₀ state at = (at ≤ length s) × (running state ≡ absorbed started (take at s))
+Inv-loop s size state₀ at₀ state at = (at ≤ length s) × (state ≡ stateAfter (take at s))
 
 abbrev μ-loop : tie.MeasureT-loop
 μ-loop s size state₀ at₀ state at = length s - at
@@ -20,7 +21,7 @@ new-requires : tie.Need-new-requires Inv-loop μ-loop
 new-requires c κs = search needs
 
 loop-holds : tie.Need-loop-holds Inv-loop μ-loop
-loop-holds c = (search needs, cc none-absorbed)
+loop-holds c = (search needs, c .new .ensures ∙ fresh-is)
 
 sub-least : tie.Need-sub-least Inv-loop μ-loop
 sub-least c = search needs
@@ -53,7 +54,7 @@ loop-again c =
     let l = c .before .before .before .before .before .loop in
     let end = l .at + c .before .before .before .least .result in
     let inside : end ≤ length (a .s .now) = omega arith in
-    (inside, part-more (a .s .now) _ _ (l .at) end (omega arith) inside (p .0) (l .inv .1) (c .before .update .ensures .1 .0))
+    (inside, part-more (a .s .now) _ _ (l .at) end (omega arith) inside (p .0) (l .inv .1) (c .before .update .ensures))
 
 finish-requires : tie.Need-finish-requires Inv-loop μ-loop
 finish-requires c κs = search needs
@@ -62,7 +63,7 @@ returns : tie.Need-returns Inv-loop μ-loop
 returns c =
     let s = c .before .before .before .before .before .args .s .now in
     let l = c .before .before .loop in
-    c .finish .ensures ∙ ap finished (l .inv .1 ∙ ap (absorbed started) (take-all (l .at) s (c .before .loop-test .left))) ∙ all-absorbed s
+    c .finish .ensures ∙ ap finished (l .inv .1 ∙ ap stateAfter (take-all (l .at) s (c .before .loop-test .left))) ∙ state-end s
 
 pub in-parts-spec : {M : Type 1} → statement M
 in-parts-spec =

@@ -9,21 +9,20 @@ use crate::refusal::{self, Refusal};
 /// The most bytes of input that are listed.
 pub const MOST_LISTED: usize = 65_536;
 
-/// The listing of an index, or in its place the line of a refusal: 70, then as the full check
-/// refuses.
-pub fn listing(input: &[u8]) -> String {
-    let checked = if input.len() > MOST_LISTED {
-        Err(refusal::LISTING_INPUT)
-    } else {
-        check(input)
-    };
-    match checked {
-        Ok(index) => lines(&index),
-        Err(refusal) => refusal_line(refusal),
+/// The listing of an index. Refused with 70, then as the full check refuses.
+pub fn listing(input: &[u8]) -> Result<String, Refusal> {
+    if input.len() > MOST_LISTED {
+        return Err(refusal::LISTING_INPUT);
     }
+    check(input).map(|index| lines(&index))
 }
 
-/// Of these refusals, 6 to 9 have a place.
+/// What the listing program prints: the listing, or the line of its refusal.
+pub fn printed(input: &[u8]) -> String {
+    listing(input).unwrap_or_else(refusal_line)
+}
+
+/// Of the listing's refusals, 6 to 9 have a place.
 fn refusal_line(Refusal { number, place }: Refusal) -> String {
     match number {
         6..=9 => format!("refused {number} at {place}\n"),

@@ -1,6 +1,6 @@
 -- `dwarnizza::dwarnizza_md5_start`: the first state, laid out.
 use mathlib.Core.Path.{refl}
-use Rattle.md5.specs.Message.{initial, fresh, started}
+use Rattle.md5.specs.Message.{initial, fresh}
 use borrow.Author.Needs.{needs}
 use Rattle.dwarnizza.proofs.hash.dwarnizza_md5_start.Statement.{statement}
 use Rattle.dwarnizza.proofs.hash.dwarnizza_md5_start.Tie as tie
@@ -9,8 +9,8 @@ new-requires : tie.Need-new-requires
 new-requires c κs = search needs
 
 returns : tie.Need-returns
-unfolding initial fresh started
-returns c = rw (c .before .before .before .before .new .ensures .0) (refl, ((refl, refl, refl), (refl, refl)))
+unfolding initial fresh
+returns c = rw (c .before .before .before .before .new .ensures) (refl, ((refl, refl, refl), refl))
 
 pub dwarnizza-md5-start-spec : {M : Type 1} → statement M
 dwarnizza-md5-start-spec = tie.close (tie.spec new-requires returns)

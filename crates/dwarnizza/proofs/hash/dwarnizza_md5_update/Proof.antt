@@ -1,15 +1,14 @@
 -- `dwarnizza::dwarnizza_md5_update`: what `update` answers, laid out.
 use mathlib.Core.Path.{_≡_, refl, sym, ap, _∙_}
 use mathlib.Core.Bool.{true, false}
-use Prim.Native.Nat.{_+_, _^_}
-use native.Mathlib.Omega.{arith}
+use Prim.Native.Nat.{_+_}
 use lib.ListN.{length}
-use borrow.Author.Tests.{ltb-false}
 use Rattle.refusal.specs.Check.{checkOf}
 use Rattle.refusal.specs.Number.{hash-limit}
 use Rattle.refusal.proofs.Laws.{silent-test, refused-test}
 use Rattle.md5.specs.Message.{tooLong, limited, updated}
-use Rattle.dwarnizza.specs.Answer.{result, wordsOf, told}
+use Rattle.dwarnizza.specs.Answer.{result, wordsOf, verdictOutcome}
+use Rattle.dwarnizza.specs.Md5State.{wordsTo}
 use borrow.Author.Needs.{needs}
 use Rattle.dwarnizza.proofs.hash.dwarnizza_md5_update.Statement.{statement}
 use Rattle.dwarnizza.proofs.hash.dwarnizza_md5_update.Tie as tie
@@ -30,13 +29,14 @@ returns : tie.Need-returns
 unfolding checkOf
 returns c =
     let a = c .before .before .before .before .before .before .before .before .before .before .before .before .before .before .args in
-    let n = a .count .now + length (a .part .now) in
     let s = c .before .before .before .before .before .before .before .before .before .state in
-    let u = c .before .before .before .before .before .before .before .before .update in
-    let v = u .ensures .0 ∙ ap (λ r. limited (r .count + length (a .part .now))) (s .ensures) in
-    let e : tooLong n ≡ false = silent-test (tooLong n) hash-limit 0 (sym v ∙ ap checkOf (c .before .before .before .before .before .enum-told .given .1)) in (
-      c .tell .ensures .0 ∙ ap (λ k. result (told k)) v,
-      (u .ensures .1 .0 ∙ ap (λ r. updated r (a .part .now)) (s .ensures), (λ h. absurd (omega (arith, ltb-false (2 ^ 48) n e)), c .tell .ensures .1 ∙ ap (λ k. wordsOf (told k)) v)),
+    let u = c .before .before .before .before .before .before .before .before .update .ensures in
+    let v = u .said ∙ ap (λ r. limited (r .count + length (a .part .now))) (s .ensures) in
+    let n = a .count .now + length (a .part .now) in
+    let within : tooLong n ≡ false = silent-test (tooLong n) hash-limit 0 (sym v ∙ ap checkOf (c .before .before .before .before .before .enum-told .given .1)) in
+    let e = u .after ∙ ap (λ r. updated r (a .part .now)) (s .ensures) in (
+      c .tell .ensures .0 ∙ ap (λ k. result (verdictOutcome k)) v,
+      (rw within (ap (λ r. wordsTo (r .words)) (rw within at e)), (ap (λ r. r .pending) e, (ap (λ r. r .count) e, c .tell .ensures .1 ∙ ap (λ k. wordsOf (verdictOutcome k)) v))),
     )
 
 enum-told-2 : tie.Need-enum-told-2
@@ -51,10 +51,10 @@ returns-2 c =
     let a = c .before .before .before .before .before .before .before .before .before .before .before .args in
     let n = a .count .now + length (a .part .now) in
     let s = c .before .before .before .before .before .before .state in
-    let u = c .before .before .before .before .before .update in
-    let v = u .ensures .0 ∙ ap (λ r. limited (r .count + length (a .part .now))) (s .ensures) in
+    let u = c .before .before .before .before .before .update .ensures in
+    let v = u .said ∙ ap (λ r. limited (r .count + length (a .part .now))) (s .ensures) in
     let e : tooLong n ≡ true = refused-test (tooLong n) hash-limit 0 _ _ (sym v ∙ ap checkOf (c .before .before .enum-told2 .given .1)) in
-    (c .tell2 .ensures .0 ∙ ap (λ k. result (told k)) v, (rw e, (λ _. (refl, refl, refl), c .tell2 .ensures .1 ∙ ap (λ k. wordsOf (told k)) v)))
+    (c .tell2 .ensures .0 ∙ ap (λ k. result (verdictOutcome k)) v, (rw e, (rw e, (rw e, c .tell2 .ensures .1 ∙ ap (λ k. wordsOf (verdictOutcome k)) v))))
 
 pub dwarnizza-md5-update-spec : {M : Type 1} → statement M
 dwarnizza-md5-update-spec =

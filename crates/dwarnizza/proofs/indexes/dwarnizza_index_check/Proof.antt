@@ -21,11 +21,11 @@ enum-known-l c = search needs
 cast-version : tie.Need-cast-version
 cast-version c = search needs
 
-cast-offset : tie.Need-cast-offset
-cast-offset c = search needs
+cast-offset-width : tie.Need-cast-offset-width
+cast-offset-width c = search needs
 
-cast-key : tie.Need-cast-key
-cast-key c = search needs
+cast-key-length : tie.Need-cast-key-length
+cast-key-length c = search needs
 
 cast-entries : tie.Need-cast-entries
 cast-entries c = search needs
@@ -40,7 +40,7 @@ returns c =
     (c .refused .ensures .0 ∙ ap result e, c .refused .ensures .1 ∙ ap wordsOf e)
 
 returns-2 : tie.Need-returns-2
-unfolding outcome told result wordsOf
+unfolding outcome layoutValues result wordsOf
 returns-2 c =
     let e = sym (ap outcome (c .before .before .before .before .before .before .before .l .given .1)) ∙ c .before .before .before .before .before .before .before .before .before .check .ensures in
     (ap result e, ap wordsOf e)
@@ -54,8 +54,8 @@ dwarnizza-index-check-spec =
     refused-requires
     enum-known-l
     cast-version
-    cast-offset
-    cast-key
+    cast-offset-width
+    cast-key-length
     cast-entries
     cast-pages
     returns

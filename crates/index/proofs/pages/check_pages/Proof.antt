@@ -5,9 +5,8 @@ use native.Mathlib.Nat.{sub-zero}
 use native.Mathlib.Omega.{arith}
 use borrow.Author.Needs.{needs}
 use Rattle.refusal.specs.Check.{firstFrom, checkOf}
-use Rattle.refusal.proofs.Laws.{refused-is, passed-is}
+use Rattle.refusal.proofs.Laws.{refused-is, passed-is, upto-said, upto-quiet, upto-end}
 use Rattle.index.specs.Check.{pageCheck, pagesCheck}
-use Rattle.index.proofs.Laws.{page-said, page-quiet, page-end}
 use Rattle.index.proofs.pages.check_pages.Statement.{statement}
 use Rattle.index.proofs.pages.check_pages.Tie as tie
 
@@ -40,7 +39,7 @@ returns c =
     let a = c .before .before .before .before .before .before .before .before .before .args in
     let v = c .before .before .check-page in
     let r = c .enum-told .given in
-    rw (r .1) (sym (l .inv .1 ∙ page-said (a .index .now) (a .l) (l .p) (a .l .pages) (c .before .before .before .before .before .before .loop-test .taken) (refused-is (v .result) _ (v .ensures) (r .1))))
+    rw (r .1) (sym (l .inv .1 ∙ upto-said (pageCheck (a .index .now) (a .l)) (l .p) (a .l .pages) (c .before .before .before .before .before .before .loop-test .taken) (refused-is (v .result) _ (v .ensures) (r .1))))
 
 enum-told-2 : tie.Need-enum-told-2 Inv-loop μ-loop
 enum-told-2 c = search needs
@@ -54,8 +53,8 @@ returns-2 c =
     let l = c .before .before .before .before .before .before .before .before .loop in
     let a = c .before .before .before .before .before .before .before .before .before .before .args in
     let v = c .before .before .before .check-page in
-    sym (l .inv .1 ∙ page-quiet (a .index .now) (a .l) (l .p) (a .l .pages) (c .before .before .before .before .before .before .before .loop-test .taken) (passed-is (v .result) _ (v .ensures) (c .before .enum-told2 .given .1))
-    ∙ page-end (a .index .now) (a .l) (l .p + 1) (a .l .pages) (c .if1 .taken))
+    sym (l .inv .1 ∙ upto-quiet (pageCheck (a .index .now) (a .l)) (l .p) (a .l .pages) (c .before .before .before .before .before .before .before .loop-test .taken) (passed-is (v .result) _ (v .ensures) (c .before .enum-told2 .given .1))
+    ∙ upto-end (pageCheck (a .index .now) (a .l)) (l .p + 1) (a .l .pages) (c .if1 .taken))
 
 slice-aggregate-check-page-2 : tie.Need-slice-aggregate-check-page-2 Inv-loop μ-loop
 slice-aggregate-check-page-2 c = search needs
@@ -73,9 +72,9 @@ returns-3 c =
     let a = c .before .before .before .before .before .before .before .before .before .before .before .before .before .before .before .args in
     let u = c .before .before .before .before .before .before .before .before .check-page in
     let v = c .before .before .check-page2 in
-    let one = l .inv .1 ∙ page-quiet (a .index .now) (a .l) (l .p) (a .l .pages) (c .before .before .before .before .before .before .before .before .before .before .before .before .loop-test .taken) (passed-is (u .result) _ (u .ensures) (c .before .before .before .before .before .before .enum-told2 .given .1)) in
+    let one = l .inv .1 ∙ upto-quiet (pageCheck (a .index .now) (a .l)) (l .p) (a .l .pages) (c .before .before .before .before .before .before .before .before .before .before .before .before .loop-test .taken) (passed-is (u .result) _ (u .ensures) (c .before .before .before .before .before .before .enum-told2 .given .1)) in
     let r = c .enum-told3 .given in
-    rw (r .1) (sym (one ∙ page-said (a .index .now) (a .l) (l .p + 1) (a .l .pages) (c .before .before .before .before .before .if1 .left) (refused-is (v .result) _ (v .ensures) (r .1))))
+    rw (r .1) (sym (one ∙ upto-said (pageCheck (a .index .now) (a .l)) (l .p + 1) (a .l .pages) (c .before .before .before .before .before .if1 .left) (refused-is (v .result) _ (v .ensures) (r .1))))
 
 enum-told-4 : tie.Need-enum-told-4 Inv-loop μ-loop
 enum-told-4 c = search needs
@@ -92,10 +91,10 @@ loop-again c =
     let a = c .before .before .before .before .before .before .before .before .before .before .before .before .before .before .before .args in
     let u = c .before .before .before .before .before .before .before .before .check-page in
     let v = c .before .before .check-page2 in
-    let one = l .inv .1 ∙ page-quiet (a .index .now) (a .l) (l .p) (a .l .pages) (c .before .before .before .before .before .before .before .before .before .before .before .before .loop-test .taken) (passed-is (u .result) _ (u .ensures) (c .before .before .before .before .before .before .enum-told2 .given .1)) in
+    let one = l .inv .1 ∙ upto-quiet (pageCheck (a .index .now) (a .l)) (l .p) (a .l .pages) (c .before .before .before .before .before .before .before .before .before .before .before .before .loop-test .taken) (passed-is (u .result) _ (u .ensures) (c .before .before .before .before .before .before .enum-told2 .given .1)) in
     let two : l .p + 1 + 1 ≡ l .p + 2 = omega arith in (
       omega arith,
-      one ∙ page-quiet (a .index .now) (a .l) (l .p + 1) (a .l .pages) (c .before .before .before .before .before .if1 .left) (passed-is (v .result) _ (v .ensures) (c .enum-told4 .given .1))
+      one ∙ upto-quiet (pageCheck (a .index .now) (a .l)) (l .p + 1) (a .l .pages) (c .before .before .before .before .before .if1 .left) (passed-is (v .result) _ (v .ensures) (c .enum-told4 .given .1))
           ∙ ap (λ i. firstFrom (pageCheck (a .index .now) (a .l)) i (a .l .pages - i)) two,
     )
 
@@ -104,7 +103,7 @@ unfolding checkOf pagesCheck
 returns-4 c =
     let l = c .before .loop in
     let a = c .before .before .before .args in
-    sym (l .inv .1 ∙ page-end (a .index .now) (a .l) (l .p) (a .l .pages) (c .loop-test .left))
+    sym (l .inv .1 ∙ upto-end (pageCheck (a .index .now) (a .l)) (l .p) (a .l .pages) (c .loop-test .left))
 
 pub check-pages-spec : {M : Type 1} → statement M
 check-pages-spec =

@@ -29,17 +29,18 @@ first-eight-of-two-requires c κs = search needs
 
 returns : tie.Need-returns
 returns c =
-    let a = c .before .before .before .before .before .args in
+    let both = c .before .before .before .before .first-eight-of-two .ensures in
+    let a = c .before .before .before .before .before .before .before .before .before .args in
     let s = a .s .now in
     let p = a .page .0 in
-    let at = c .before .before .before .page-at .ensures in
-    let first = c .before .before .part in
-    let second = c .before .part2 in
-    let short : length (first .result .now) ≤ pageSize = omega (arith, ap length (first .ensures), partAt-length s (c .before .before .before .page-at .result) pageSize) in
-    let short-next : length (second .result .now) ≤ pageSize = omega (arith, ap length (second .ensures), partAt-length s (c .before .before .before .page-at .result + pageSize) pageSize) in
-    let next : c .before .before .before .page-at .result + pageSize ≡ pageAt (p + 1) = omega (arith, at) in (
-      first-eight-is (first .result .now) _ short (c .first-eight-of-two .ensures .0) ∙ ap (λ m. take 8 (md5 m)) (first .ensures ∙ ap (λ n. partAt s n pageSize) at),
-      first-eight-is (second .result .now) _ short-next (c .first-eight-of-two .ensures .1) ∙ ap (λ m. take 8 (md5 m)) (second .ensures ∙ ap (λ n. partAt s n pageSize) next),
+    let at = c .before .before .before .before .before .before .before .page-at .ensures in
+    let first = c .before .before .before .before .before .before .part in
+    let second = c .before .before .before .before .before .part2 in
+    let short : length (first .result .now) ≤ pageSize = omega (arith, ap length (first .ensures), partAt-length s (c .before .before .before .before .before .before .before .page-at .result) pageSize) in
+    let short-next : length (second .result .now) ≤ pageSize = omega (arith, ap length (second .ensures), partAt-length s (c .before .before .before .before .before .before .before .page-at .result + pageSize) pageSize) in
+    let next : c .before .before .before .before .before .before .before .page-at .result + pageSize ≡ pageAt (p + 1) = omega (arith, at) in (
+      first-eight-is (first .result .now) _ short (both .0 .eight) ∙ ap (λ m. take 8 (md5 m)) (first .ensures ∙ ap (λ n. partAt s n pageSize) at),
+      first-eight-is (second .result .now) _ short-next (both .1 .eight) ∙ ap (λ m. take 8 (md5 m)) (second .ensures ∙ ap (λ n. partAt s n pageSize) next),
     )
 
 pub page-hashes-spec : {M : Type 1} → statement M

@@ -1,6 +1,5 @@
--- `md5::Md5::new` is `started`.
-use mathlib.Core.Path.{refl}
-use Rattle.md5.specs.Message.{fresh, started}
+-- `md5::Md5::new` is `fresh`.
+use Rattle.md5.specs.Message.{fresh}
 use borrow.Author.Needs.{needs}
 use Rattle.md5.proofs.Md5.new.Statement.{statement}
 use Rattle.md5.proofs.Md5.new.Tie as tie
@@ -9,8 +8,8 @@ initial-requires : tie.Need-initial-requires
 initial-requires c κs = search needs
 
 returns : tie.Need-returns
-unfolding fresh started
-returns c = rw (c .initial .ensures) (refl, refl)
+unfolding fresh
+returns c = rw (c .initial .ensures)
 
 pub new-spec : {M : Type 1} → statement M
 new-spec = tie.close (tie.spec initial-requires returns)

@@ -22,7 +22,7 @@ unfolding refusedIf
 returns c =
     let a = c .before .before .before .before .args in
     let e : tooLong (a .self .count + length (a .part .now)) ≡ true = c .before .before .within .ensures ∙ c .before .if1 .taken in
-    (c .refuse .ensures ∙ rw e, (rw e, λ _. refl))
+    record { said = c .refuse .ensures ∙ rw e; after = rw e }
 
 absorb-requires : tie.Need-absorb-requires
 absorb-requires c κs =
@@ -34,7 +34,7 @@ unfolding refusedIf checkOf
 returns-2 c =
     let a = c .before .before .before .before .args in
     let e : tooLong (a .self .count + length (a .part .now)) ≡ false = c .before .before .within .ensures ∙ c .before .if1 .left in
-    (rw e, (rw e (c .absorb .ensures), λ h. absurd (omega (arith, ltb-false (2 ^ 48) (a .self .count + length (a .part .now)) e))))
+    record { said = rw e; after = rw e (c .absorb .ensures) }
 
 pub update-spec : {M : Type 1} → statement M
 update-spec =

@@ -1,0 +1,25 @@
+-- `md5_block::rotate`: a shift amount below 32 is its own remainder.
+use mathlib.Core.Path.{_≡_}
+use Prim.Native.Nat.{_-_, _%_}
+use native.Mathlib.Omega.{arith}
+use borrow.Author.Needs.{needs}
+use Rattle.md5_block.proofs.rotate.Statement.{statement}
+use Rattle.md5_block.proofs.rotate.Tie as tie
+
+shl-result : tie.Need-shl-result
+shl-result c = search needs
+
+sub-result : tie.Need-sub-result
+sub-result c = search needs
+
+shr-result : tie.Need-shr-result
+shr-result c = search needs
+
+returns : tie.Need-returns
+returns c =
+    let e : c .args .s % 32 ≡ c .args .s = omega arith in
+    let f : (32 - c .args .s) % 32 ≡ 32 - c .args .s = omega arith in
+    rw (e, f)
+
+pub rotate-spec : {M : Type 1} → statement M
+rotate-spec = tie.close (tie.spec shl-result sub-result shr-result returns)

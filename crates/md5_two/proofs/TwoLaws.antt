@@ -1,0 +1,69 @@
+-- Laws of two messages at once: each by itself.
+use mathlib.Core.Path.{_≡_, sym, ap, ap₂, _∙_}
+use mathlib.Core.Bool.{false, cond}
+use mathlib.Core.List.{List, [], _++_}
+use Prim.Native.Nat.{ℕ, _+_, _-_, _*_, _/_, _%_, _≤_}
+use native.Mathlib.Omega.{arith}
+use lib.ListN.{length, take, drop, replicate, length-append, length-replicate, drop-of-length-le}
+use Rattle.refusal.specs.Check.{checkOf, silent, refusedIf}
+use Rattle.md5_block.specs.declared.Words.{Words}
+use Rattle.md5_block.specs.Block.{addends, steps, wordsOf, sum, block, blocks, whole}
+use Rattle.md5_block.proofs.BlockLaws.{all-steps, block-is, whole-one}
+use Rattle.md5.specs.declared.FirstEight.{FirstEight}
+use Rattle.md5_end.specs.End.{padded, rest}
+use Rattle.md5_end.proofs.EndLaws.{little-length, whole-rest}
+use Rattle.md5.specs.Message.{initial, padding, digestOf, md5, tooLong}
+use Rattle.md5_two.specs.declared.Two.{Two}
+use Rattle.md5_two.specs.Two.{FirstEightOf, both, stepsTwo, blockTwo, wholeTwo}
+
+pub paired : {v w : Words} {u : Two} → u .first ≡ v → u .second ≡ w → u ≡ both v w
+paired p q = λ i. record { first = p i; second = q i }
+
+-- sixteen groups of four steps of two messages, and the sums
+pub block-two-is : (t x y : List ℕ) (v : Two) {w1 w2 w3 w4 w5 w6 w7 w8 w9 w10 w11 w12 w13 w14 w15 w16 : Two} {a b : Words}
+    → w1 ≡ stepsTwo t x y 0 4 v
+    → w2 ≡ stepsTwo t x y 4 4 w1
+    → w3 ≡ stepsTwo t x y 8 4 w2
+    → w4 ≡ stepsTwo t x y 12 4 w3
+    → w5 ≡ stepsTwo t x y 16 4 w4
+    → w6 ≡ stepsTwo t x y 20 4 w5
+    → w7 ≡ stepsTwo t x y 24 4 w6
+    → w8 ≡ stepsTwo t x y 28 4 w7
+    → w9 ≡ stepsTwo t x y 32 4 w8
+    → w10 ≡ stepsTwo t x y 36 4 w9
+    → w11 ≡ stepsTwo t x y 40 4 w10
+    → w12 ≡ stepsTwo t x y 44 4 w11
+    → w13 ≡ stepsTwo t x y 48 4 w12
+    → w14 ≡ stepsTwo t x y 52 4 w13
+    → w15 ≡ stepsTwo t x y 56 4 w14
+    → w16 ≡ stepsTwo t x y 60 4 w15
+    → a ≡ sum (v .first) (w16 .first)
+    → b ≡ sum (v .second) (w16 .second)
+    → both a b ≡ blockTwo t x y v
+unfolding stepsTwo blockTwo
+block-two-is t x y v e1 e2 e3 e4 e5 e6 e7 e8 e9 e10 e11 e12 e13 e14 e15 e16 p q =
+    paired
+    (block-is t x (v .first) (all-steps t x (v .first) (ap (λ w. w .first) e1) (ap (λ w. w .first) e2) (ap (λ w. w .first) e3) (ap (λ w. w .first) e4) (ap (λ w. w .first) e5) (ap (λ w. w .first) e6) (ap (λ w. w .first) e7) (ap (λ w. w .first) e8) (ap (λ w. w .first) e9) (ap (λ w. w .first) e10) (ap (λ w. w .first) e11) (ap (λ w. w .first) e12) (ap (λ w. w .first) e13) (ap (λ w. w .first) e14) (ap (λ w. w .first) e15) (ap (λ w. w .first) e16)) p)
+    (block-is t y (v .second) (all-steps t y (v .second) (ap (λ w. w .second) e1) (ap (λ w. w .second) e2) (ap (λ w. w .second) e3) (ap (λ w. w .second) e4) (ap (λ w. w .second) e5) (ap (λ w. w .second) e6) (ap (λ w. w .second) e7) (ap (λ w. w .second) e8) (ap (λ w. w .second) e9) (ap (λ w. w .second) e10) (ap (λ w. w .second) e11) (ap (λ w. w .second) e12) (ap (λ w. w .second) e13) (ap (λ w. w .second) e14) (ap (λ w. w .second) e15) (ap (λ w. w .second) e16)) q)
+
+-- the padding of whole blocks is one block
+pub end-whole : (k s x : List ℕ) (n : ℕ) (w e r : Words) → n ≡ length s → n % 64 ≡ 0 → e ≡ whole k s w → x ≡ wordsOf 16 (padded 55 n) → r ≡ block k x e
+    → r ≡ whole k (s ++ padding (length s)) w
+unfolding padding
+end-whole k s x n w e r l h p q b =
+    let none : length s ≤ length s / 64 * 64 = omega arith in
+    let nothing : rest s ≡ [] = drop-of-length-le s none in
+    let fifty-five : (119 - length s % 64) % 64 ≡ 55 = omega arith in
+    let same : padded 55 n ≡ padded ((119 - length s % 64) % 64) (length s) = ap₂ padded (sym fifty-five) l in
+    let size : length (padded ((119 - length s % 64) % 64) (length s)) ≡ 64 = simp (length-append, length-replicate, little-length) (omega arith) in
+    b ∙ ap₂ (block k) (q ∙ ap (wordsOf 16) same) p ∙ sym (whole-one k (padded ((119 - length s % 64) % 64) (length s)) (whole k s w) size)
+    ∙ ap (λ l. whole k (l ++ padded ((119 - length s % 64) % 64) (length s)) (whole k s w)) (sym nothing)
+    ∙ sym (whole-rest k s (padded ((119 - length s % 64) % 64) (length s)) w)
+
+-- the answer for a message within the limit
+pub passed-is : (m : List ℕ) (n : ℕ) (w : Words) (r : FirstEight) → n ≡ length m → tooLong n ≡ false → w ≡ whole addends (m ++ padding (length m)) initial
+    → (checkOf (r .verdict) ≡ silent) × (r .bytes ≡ take 8 (digestOf w)) → FirstEightOf m r
+unfolding refusedIf md5
+passed-is m n w r l f p q =
+    let e : tooLong (length m) ≡ false = ap tooLong (sym l) ∙ f in
+    record { said = rw e (q .0); eight = rw e (q .1 ∙ ap (λ v. take 8 (digestOf v)) p) }

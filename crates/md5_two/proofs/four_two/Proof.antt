@@ -1,0 +1,19 @@
+-- `md5_two::four_two`: four steps of each message.
+use Rattle.md5_two.specs.Two.{stepsTwo}
+use Rattle.md5_two.proofs.TwoLaws.{paired}
+use borrow.Author.Needs.{needs}
+use Rattle.md5_two.proofs.four_two.Statement.{statement}
+use Rattle.md5_two.proofs.four_two.Tie as tie
+
+four-requires : tie.Need-four-requires
+four-requires c κs = search needs
+
+four-requires-2 : tie.Need-four-requires-2
+four-requires-2 c κs = search needs
+
+returns : tie.Need-returns
+unfolding stepsTwo
+returns c = paired (c .before .four .ensures) (c .four2 .ensures)
+
+pub four-two-spec : {M : Type 1} → statement M
+four-two-spec = tie.close (tie.spec four-requires four-requires-2 returns)

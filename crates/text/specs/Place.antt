@@ -1,0 +1,6 @@
+-- Places in output.
+use Prim.Native.Nat.{ℕ, _+_, _-_, _^_, min}
+
+-- The place after so many bytes from a place on. Places end at 2^64 - 1, which no output reaches.
+abbrev pub placeAfter : (at length : ℕ) → ℕ
+placeAfter at length = min (at + length) (2 ^ 64 - 1)
