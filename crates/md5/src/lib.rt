@@ -1,5 +1,4 @@
 // MD5 (RFC 1321) over bytes that come in parts.
-use parts::copy;
 use md5_block::Words;
 use md5_block::addends;
 use md5_block::blocks;
@@ -8,6 +7,7 @@ use md5_end::eight;
 use md5_end::end;
 use md5_end::initial;
 use md5_end::lay_rest;
+use parts::copy;
 use refusal::HASH_LIMIT;
 use refusal::Verdict;
 use refusal::refuse;

@@ -1,10 +1,10 @@
 // The end of a message of RFC 1321: what is left after its whole blocks, the padding, and the digest's bytes.
-use parts::copy;
 use md5_block::Words;
 use md5_block::addends;
 use md5_block::block;
 use md5_block::block_words;
 use md5_block::blocks;
+use parts::copy;
 ghost use mathlib.Core.Path.{_≡_};
 ghost use mathlib.Core.List.{_++_, _∷_};
 ghost use Prim.Native.Nat.{_+_, _*_, _^_};
