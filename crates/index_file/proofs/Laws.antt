@@ -4,7 +4,7 @@ use mathlib.Core.List.{List, _∷_, _++_}
 use Prim.Native.Nat.{ℕ, zero, suc, _+_, _-_, _*_, _≤_}
 use native.Mathlib.Nat.{not-suc-le-zero, le-of-suc-le-suc}
 use native.Mathlib.Omega.{arith}
-use lib.ListN.{length, take, replicate, length-append}
+use lib.ListN.{length, take, replicate, length-append, length-replicate}
 use Rattle.parts.specs.Part.{partAt, partsFrom, overlay}
 use Rattle.parts.proofs.Laws.{overlay-after, overlay-before}
 use Rattle.parts.proofs.Parts.{part-laid, parts-length}
@@ -20,16 +20,17 @@ take-zeros (suc n) zero h = absurd (not-suc-le-zero h)
 take-zeros (suc n) (suc m) h = ap (λ (r : List ℕ). 0 ∷ r) (take-zeros n m (le-of-suc-le-suc h))
 
 -- a turn of the loop that writes a page: its entries, then zeros
-pub page-laid : (list : List ℕ) (l : Layout) (p : ℕ) (entries zeros out old mid : List ℕ) (to : ℕ) → entries ≡ entriesIn list l p
-    → zeros ≡ partAt (replicate pageSize 0) 0 (pageSize - onPage l p * entrySize l)
-    → to ≡ 0 + length (partsFrom (pageIn list l) 0 p) → old ≡ overlay out 0 (partsFrom (pageIn list l) 0 p) → mid ≡ overlay old to entries
-    → (to + length entries + length zeros ≡ 0 + length (partsFrom (pageIn list l) 0 (p + 1)))
+pub page-laid : (list : List ℕ) (l : Layout) (p : ℕ) (entries zeros out old mid : List ℕ) (to rest : ℕ) → entries ≡ entriesIn list l p → rest ≡ pageSize - onPage l p * entrySize l
+    → zeros ≡ partAt (replicate pageSize 0) 0 rest → to ≡ 0 + length (partsFrom (pageIn list l) 0 p) → old ≡ overlay out 0 (partsFrom (pageIn list l) 0 p)
+    → mid ≡ overlay old to entries
+    → (to + length entries + rest ≡ 0 + length (partsFrom (pageIn list l) 0 (p + 1)))
     × (overlay mid (to + length entries) zeros ≡ overlay out 0 (partsFrom (pageIn list l) 0 (p + 1)))
 unfolding pageIn
-page-laid list l p entries zeros out old mid to e z t g m =
-    let page : entries ++ zeros ≡ pageIn list l p = ap₂ _++_ e (z ∙ take-zeros (pageSize - onPage l p * entrySize l) pageSize (omega arith)) in
+page-laid list l p entries zeros out old mid to rest e r z t g m =
+    let clear : zeros ≡ replicate rest 0 = z ∙ take-zeros rest pageSize (omega (arith, r)) in
+    let page : entries ++ zeros ≡ pageIn list l p = ap₂ _++_ e (clear ∙ ap (λ n. replicate n 0) r) in
     let turn = part-laid (pageIn list l) p (entries ++ zeros) out old 0 to page t g in (
-      omega (arith, length-append entries zeros, turn .0),
+      omega (arith, length-append entries zeros, turn .0, ap length clear, length-replicate {A = ℕ} rest 0),
       ap (λ o. overlay o (to + length entries) zeros) m ∙ overlay-after old to entries zeros ∙ turn .1,
     )
 

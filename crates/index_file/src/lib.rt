@@ -42,9 +42,9 @@ pub fn write_pages(list: &[u8], l: Layout, output: &mut [u8])
         let entries = part(list, list_at(l, Page(p), Slot(0)), bytes);
         copy(entries, output, to);
         to += entries.len();
-        let padding = part(&zeros, 0, PAGE_SIZE - bytes);
-        copy(padding, output, to);
-        to += padding.len();
+        let rest = PAGE_SIZE - bytes;
+        copy(part(&zeros, 0, rest), output, to);
+        to += rest;
         p += 1;
     }
 }

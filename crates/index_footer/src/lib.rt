@@ -1,5 +1,6 @@
 // The footer of an archive index that is written.
 use index_layout::FOOTER_HASH_AT;
+use index_layout::FOOTER_SIZE;
 use index_layout::HASH_LENGTH;
 use index_layout::Layout;
 use index_layout::PAGE_KB;
@@ -18,7 +19,7 @@ ghost use Rattle.index_layout.specs.Layout as layout;
 ghost use Rattle.index_footer.specs.Footer as spec;
 
 // The footer's fields, and zeros in place of the footer hash.
-fn unhashed_fields(l: Layout) -> [u8; 20]
+fn unhashed_fields(l: Layout) -> [u8; FOOTER_SIZE - VERSION_AT]
     ensures { λ r. ⌜ r ≡ spec.fields l ++ replicate layout.hashLength 0 ⌝ }
 {
     let version = l.version;

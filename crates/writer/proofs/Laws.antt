@@ -1,6 +1,6 @@
 -- Laws of the writer's refusals, in their order.
 use mathlib.Core.Path.{_≡_, refl, sym, ap, _∙_}
-use mathlib.Core.Bool.{true, false, not}
+use mathlib.Core.Bool.{Bool, true, false, not}
 use mathlib.Core.List.{List}
 use Prim.Native.Nat.{ℕ, _+_, _-_, _%_, _≤_, _<_}
 use native.Mathlib.Omega.{arith}
@@ -12,9 +12,25 @@ use Rattle.refusal.specs.Number.{settings, list-length, entry-count, index-orde
 use Rattle.refusal.proofs.Laws.{said, quiet, first-said, skip}
 use Rattle.rising.specs.Fall.{risesAt, fallFrom}
 use Rattle.rising.proofs.Laws.{fall-check, fall-low}
-use Rattle.index_layout.specs.Layout.{mostEntries, countCheck, indexLength}
+use Rattle.field.specs.Number.{within}
+use Rattle.index_layout.specs.Layout.{leastVersion, mostVersion, leastOffsetWidth, mostOffsetWidth, leastKeyLength, mostKeyLength, mostEntries, countCheck, indexLength}
 use Rattle.writer.specs.declared.Settings.{Settings}
 use Rattle.writer.specs.Write.{listEntrySize, listCount, layoutFor, settingsRight, settingsCheck, wholeCheck, keyIn, listOrderCheck, risingCheck, writeCheck}
+
+-- the settings, field by field
+module _ (s : Settings) where
+  pub version-wrong : within (s .version) leastVersion mostVersion ≡ false → false ≡ settingsRight s
+  unfolding settingsRight
+  version-wrong v = rw v
+
+  pub width-wrong : within (s .version) leastVersion mostVersion ≡ true → within (s .«offset_width») leastOffsetWidth mostOffsetWidth ≡ false → false ≡ settingsRight s
+  unfolding settingsRight
+  width-wrong v w = rw (v, w)
+
+  pub key-left : (r : Bool) → within (s .version) leastVersion mostVersion ≡ true → within (s .«offset_width») leastOffsetWidth mostOffsetWidth ≡ true
+      → r ≡ within (s .«key_length») leastKeyLength mostKeyLength → r ≡ settingsRight s
+  unfolding settingsRight
+  key-left r v w k = rw (v, w) k
 
 module _ (s : Settings) (list : List ℕ) (room : ℕ) where
   pub judged-11 : settingsRight s ≡ false → writeCheck s list room ≡ refused settings 0

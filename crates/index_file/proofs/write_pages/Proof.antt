@@ -3,7 +3,7 @@ use mathlib.Core.Path.{_≡_, sym, ap, ap₂, _∙_}
 use Prim.Native.Nat.{_+_, _-_, _*_, _≤_}
 use native.Mathlib.Nat.{add-zero}
 use native.Mathlib.Omega.{arith}
-use lib.ListN.{length, replicate}
+use lib.ListN.{length}
 use Rattle.parts.specs.Part.{partAt, partsFrom, overlay}
 use Rattle.parts.proofs.Laws.{overlay-none, overlay-length, partAt-length}
 use Rattle.index_layout.specs.Layout.{pageSize}
@@ -41,11 +41,11 @@ add-to c =
     let short : length (c .before .before .before .before .part .result .now) ≤ pageSize = omega (arith, ap length (c .before .before .before .before .part .ensures), partAt-length (c .before .before .before .before .before .before .before .before .before .before .before .args .list .now) (c .before .before .before .before .before .list-at .result) (c .before .before .before .before .before .before .entries-size .result)) in
     omega (arith, short)
 
+sub-rest : tie.Need-sub-rest Inv-loop μ-loop
+sub-rest c = search needs
+
 slice-aggregate-part : tie.Need-slice-aggregate-part Inv-loop μ-loop
 slice-aggregate-part c = search needs
-
-sub-part : tie.Need-sub-part Inv-loop μ-loop
-sub-part c = search needs
 
 part-requires-2 : tie.Need-part-requires-2 Inv-loop μ-loop
 part-requires-2 c κs = search needs
@@ -56,8 +56,7 @@ copy-requires-2 c κs = search needs
 add-to-2 : tie.Need-add-to-2 Inv-loop μ-loop
 add-to-2 c =
     let short : length (c .before .before .before .before .before .before .before .before .before .before .part .result .now) ≤ pageSize = omega (arith, ap length (c .before .before .before .before .before .before .before .before .before .before .part .ensures), partAt-length (c .before .before .before .before .before .before .before .before .before .before .before .before .before .before .before .before .before .args .list .now) (c .before .before .before .before .before .before .before .before .before .before .before .list-at .result) (c .before .before .before .before .before .before .before .before .before .before .before .before .entries-size .result)) in
-    let less : length (c .before .before .before .before .part2 .result .now) ≤ pageSize = omega (arith, ap length (c .before .before .before .before .part2 .ensures), partAt-length (replicate pageSize 0) 0 (pageSize - c .before .before .before .before .before .before .before .before .before .before .before .before .entries-size .result)) in
-    omega (arith, short, less)
+    omega (arith, short)
 
 add-p : tie.Need-add-p Inv-loop μ-loop
 add-p c = search needs
@@ -70,11 +69,9 @@ loop-again c =
     let a = c .before .before .before .before .before .before .before .before .before .before .before .before .before .before .before .before .before .args in
     let l = c .before .before .before .before .before .before .before .before .before .before .before .before .before .before .loop in
     let short : length (c .before .before .before .before .before .before .before .before .before .before .part .result .now) ≤ pageSize = omega (arith, ap length (c .before .before .before .before .before .before .before .before .before .before .part .ensures), partAt-length (a .list .now) (c .before .before .before .before .before .before .before .before .before .before .before .list-at .result) (c .before .before .before .before .before .before .before .before .before .before .before .before .entries-size .result)) in
-    let less : length (c .before .before .before .before .part2 .result .now) ≤ pageSize = omega (arith, ap length (c .before .before .before .before .part2 .ensures), partAt-length (replicate pageSize 0) 0 (pageSize - c .before .before .before .before .before .before .before .before .before .before .before .before .entries-size .result)) in
     let entries = c .before .before .before .before .before .before .before .before .before .before .part .ensures ∙ ap₂ (partAt (a .list .now)) (c .before .before .before .before .before .before .before .before .before .before .before .list-at .ensures) (c .before .before .before .before .before .before .before .before .before .before .before .before .entries-size .ensures .0) in
-    let zeros = c .before .before .before .before .part2 .ensures ∙ ap (λ n. partAt (replicate pageSize 0) 0 (pageSize - n)) (c .before .before .before .before .before .before .before .before .before .before .before .before .entries-size .ensures .0) in
-    let turn = page-laid (a .list .now) (a .l) (l .p) _ _ (a .output .now) _ _ _ entries zeros (l .inv .2) (l .inv .3) (c .before .before .before .before .before .before .before .before .copy .ensures) in
-    (omega arith, omega (arith, short, less), turn .0, c .before .before .copy2 .ensures ∙ turn .1)
+    let turn = page-laid (a .list .now) (a .l) (l .p) _ _ (a .output .now) _ _ _ _ entries (ap (λ n. pageSize - n) (c .before .before .before .before .before .before .before .before .before .before .before .before .entries-size .ensures .0)) (c .before .before .before .before .part2 .ensures) (l .inv .2) (l .inv .3) (c .before .before .before .before .before .before .before .before .copy .ensures) in
+    (omega arith, omega (arith, short), turn .0, c .before .before .copy2 .ensures ∙ turn .1)
 
 same-length : tie.Need-same-length Inv-loop μ-loop
 same-length c = ap length (c .before .loop .inv .3) ∙ overlay-length (c .before .before .before .before .args .output .now) _ _
@@ -98,8 +95,8 @@ write-pages-spec =
     part-requires
     copy-requires
     add-to
+    sub-rest
     slice-aggregate-part
-    sub-part
     part-requires-2
     copy-requires-2
     add-to-2

@@ -1,6 +1,7 @@
 -- `writer::settings_right`: version, offset width and key length, one after the other.
+use mathlib.Core.Path.{sym, _∙_}
 use borrow.Author.Tests.{not-true, not-false}
-use Rattle.writer.specs.Write.{settingsRight}
+use Rattle.writer.proofs.Laws.{version-wrong, width-wrong, key-left}
 use borrow.Author.Needs.{needs}
 use Rattle.writer.proofs.settings_right.Statement.{statement}
 use Rattle.writer.proofs.settings_right.Tie as tie
@@ -18,8 +19,7 @@ within-requires : tie.Need-within-requires
 within-requires c κs = search needs
 
 returns : tie.Need-returns
-unfolding settingsRight
-returns c = rw (← c .before .within .ensures, not-true (c .before .within .result) (c .if1 .taken))
+returns c = version-wrong (c .before .before .before .args .settings) (sym (c .before .within .ensures) ∙ not-true _ (c .if1 .taken))
 
 cast-width : tie.Need-cast-width
 cast-width c = search needs
@@ -34,9 +34,8 @@ within-requires-2 : tie.Need-within-requires-2
 within-requires-2 c κs = search needs
 
 returns-2 : tie.Need-returns-2
-unfolding settingsRight
 returns-2 c =
-    rw (← c .before .before .before .before .within .ensures, not-false (c .before .before .before .before .within .result) (c .before .before .before .if1 .left), ← c .before .within2 .ensures, not-true (c .before .within2 .result) (c .if2 .taken))
+    width-wrong (c .before .before .before .before .before .before .args .settings) (sym (c .before .before .before .before .within .ensures) ∙ not-false _ (c .before .before .before .if1 .left)) (sym (c .before .within2 .ensures) ∙ not-true _ (c .if2 .taken))
 
 cast-key : tie.Need-cast-key
 cast-key c = search needs
@@ -51,9 +50,8 @@ within-requires-3 : tie.Need-within-requires-3
 within-requires-3 c κs = search needs
 
 returns-3 : tie.Need-returns-3
-unfolding settingsRight
 returns-3 c =
-    rw (← c .before .before .before .before .before .before .within .ensures, not-false (c .before .before .before .before .before .before .within .result) (c .before .before .before .before .before .if1 .left), ← c .before .before .before .within2 .ensures, not-false (c .before .before .before .within2 .result) (c .before .before .if2 .left)) (c .within3 .ensures)
+    key-left (c .before .before .before .before .before .before .before .before .args .settings) _ (sym (c .before .before .before .before .before .before .within .ensures) ∙ not-false _ (c .before .before .before .before .before .if1 .left)) (sym (c .before .before .before .within2 .ensures) ∙ not-false _ (c .before .before .if2 .left)) (c .within3 .ensures)
 
 pub settings-right-spec : {M : Type 1} → statement M
 settings-right-spec =
