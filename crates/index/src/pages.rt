@@ -33,8 +33,8 @@ pub struct PageHashes {
 
 // Two pages are hashed together because that is quicker.
 pub fn page_hashes(s: &[u8], page: Page) -> PageHashes
-    ensures { λ r. ⌜ r .first ≡ take 8 (md5 (layout.pageOf (now (s .entry)) (page .0))) ⌝ }
-    ensures { λ r. ⌜ r .second ≡ take 8 (md5 (layout.pageOf (now (s .entry)) (page .0 + 1))) ⌝ }
+    ensures { λ r. ⌜ r .first ≡ take layout.hashLength (md5 (layout.pageOf (now (s .entry)) (page .0))) ⌝ }
+    ensures { λ r. ⌜ r .second ≡ take layout.hashLength (md5 (layout.pageOf (now (s .entry)) (page .0 + 1))) ⌝ }
 {
     let at = page_at(page);
     let both = first_eight_of_two(part(s, at, PAGE_SIZE), part(s, at + PAGE_SIZE, PAGE_SIZE));
@@ -47,7 +47,7 @@ pub fn page_hashes(s: &[u8], page: Page) -> PageHashes
 
 // The first eight bytes of a page's hash against the stored ones.
 fn page_hash_right(index: &[u8], l: Layout, page: Page, hash: &[u8]) -> bool
-    requires { ⌜ now hash ≡ take 8 (md5 (layout.pageOf (now index) (page .0))) ⌝ }
+    requires { ⌜ now hash ≡ take layout.hashLength (md5 (layout.pageOf (now index) (page .0))) ⌝ }
     ensures { λ r. ⌜ spec.pageHashCheck (now (index .entry)) l (page .0) ≡ refusedIf (not r) index-page-hash (page .0) ⌝ }
 {
     equal(
@@ -126,7 +126,7 @@ fn last_key_right(index: &[u8], l: Layout, page: Page) -> bool
 
 // One page, with the first eight bytes of its hash: 6, 7, 8, 9.
 fn check_page(index: &[u8], l: Layout, page: Page, hash: &[u8]) -> Verdict
-    requires { ⌜ now hash ≡ take 8 (md5 (layout.pageOf (now index) (page .0))) ⌝ }
+    requires { ⌜ now hash ≡ take layout.hashLength (md5 (layout.pageOf (now index) (page .0))) ⌝ }
     ensures { λ r. ⌜ checkOf r ≡ spec.pageCheck (now (index .entry)) l (page .0) ⌝ }
 {
     let place = page.0 as usize;

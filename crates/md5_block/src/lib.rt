@@ -85,7 +85,7 @@ const ADDENDS: [u32; 64] = [
 // The shift amounts, by the round and the step's place in a group of four.
 const SHIFTS: [u32; 16] = [7, 12, 17, 22, 5, 9, 14, 20, 4, 11, 16, 23, 6, 10, 15, 21];
 
-// The table of addends, for who hashes to lend it.
+// The table of addends, to be lent to the functions below.
 pub fn addends() -> [u32; 64]
     ensures { λ r. ⌜ r ≡ spec.addends ⌝ }
 {

@@ -10,9 +10,11 @@ use Rattle.md5_block.specs.declared.Words.{Words}
 use Rattle.md5_block.specs.Block.{addends, steps, wordsOf, sum, block, blocks, whole}
 use Rattle.md5_block.proofs.BlockLaws.{all-steps, block-is, whole-one}
 use Rattle.md5.specs.declared.FirstEight.{FirstEight}
-use Rattle.md5_end.specs.End.{padded, rest}
-use Rattle.md5_end.proofs.EndLaws.{little-length, whole-rest}
-use Rattle.md5.specs.Message.{initial, padding, digestOf, md5, tooLong}
+use Rattle.md5.specs.declared.Hashed.{Hashed}
+use Rattle.md5_end.specs.End.{padded, zeros, rest}
+use Rattle.md5_end.proofs.EndLaws.{little-length, rest-length, whole-rest}
+use Rattle.md5.proofs.MessageLaws.{waiting-zeros}
+use Rattle.md5.specs.Message.{initial, padding, digestOf, md5, tooLong, limited, digestOr0}
 use Rattle.md5_two.specs.declared.Two.{Two}
 use Rattle.md5_two.specs.Two.{FirstEightOf, both, stepsTwo, blockTwo, wholeTwo}
 
@@ -60,6 +62,16 @@ end-whole k s x n w e r l h p q b =
     ∙ ap (λ l. whole k (l ++ padded ((119 - length s % 64) % 64) (length s)) (whole k s w)) (sym nothing)
     ∙ sym (whole-rest k s (padded ((119 - length s % 64) % 64) (length s)) w)
 
+-- the end of a message after its whole blocks
+pub end-itself : (s left : List ℕ) (n : ℕ) (w e r : Words) → n ≡ length s → left ≡ rest s → e ≡ whole addends s w
+    → r ≡ whole addends (left ++ padded (zeros (length left)) n) e → r ≡ whole addends (s ++ padding (length s)) w
+unfolding padding
+end-itself s left n w e r l p q h =
+    let size : length left ≡ length s % 64 = ap length p ∙ rest-length s in
+    let same : padded (zeros (length left)) n ≡ padded (zeros (length s)) (length s) = ap₂ padded (waiting-zeros left (length s) size) l in
+    h ∙ ap₂ (λ a b. whole addends (left ++ a) b) same q ∙ ap (λ a. whole addends (a ++ padded (zeros (length s)) (length s)) (whole addends s w)) p
+    ∙ sym (whole-rest addends s (padded (zeros (length s)) (length s)) w)
+
 -- the answer for a message within the limit
 pub passed-is : (m : List ℕ) (n : ℕ) (w : Words) (r : FirstEight) → n ≡ length m → tooLong n ≡ false → w ≡ whole addends (m ++ padding (length m)) initial
     → (checkOf (r .verdict) ≡ silent) × (r .bytes ≡ take 8 (digestOf w)) → FirstEightOf m r
@@ -67,3 +79,10 @@ unfolding refusedIf md5
 passed-is m n w r l f p q =
     let e : tooLong (length m) ≡ false = ap tooLong (sym l) ∙ f in
     (rw e (q .0), rw e (q .1 ∙ ap (λ v. take 8 (digestOf v)) p))
+
+pub hashed-is : (m : List ℕ) (n : ℕ) (w : Words) (r : Hashed) → n ≡ length m → tooLong n ≡ false → w ≡ whole addends (m ++ padding (length m)) initial
+    → (checkOf (r .verdict) ≡ silent) × (r .bytes ≡ digestOf w) → (checkOf (r .verdict) ≡ limited (length m)) × (r .bytes ≡ digestOr0 m)
+unfolding refusedIf md5
+hashed-is m n w r l f p q =
+    let e : tooLong (length m) ≡ false = ap tooLong (sym l) ∙ f in
+    (rw e (q .0), rw e (q .1 ∙ ap digestOf p))

@@ -1,6 +1,8 @@
-// The first eight digest bytes of two messages at once, a block of each at a time. A step of MD5 waits for the step before it,
+// Two messages hashed at once, a block of each at a time. A step of MD5 waits for the step before it,
 // but not for those of the other message, so that two blocks in turn take little longer than one.
 use md5::FirstEight;
+use md5::Hashed;
+use md5::digest;
 use md5::first_eight;
 use md5::within_limit;
 use md5_block::Words;
@@ -8,7 +10,9 @@ use md5_block::addends;
 use md5_block::block_words;
 use md5_block::four;
 use md5_block::sum;
+use md5_end::bytes;
 use md5_end::eight;
+use md5_end::end;
 use md5_end::initial;
 use md5_end::last_words;
 use refusal::Verdict;
@@ -146,5 +150,62 @@ pub fn first_eight_of_two(a: &[u8], b: &[u8]) -> TwoFirstEights
     TwoFirstEights {
         first: passed(v),
         second: passed(u),
+    }
+}
+
+// The digests of two messages.
+pub struct TwoHashed {
+    pub first: Hashed,
+    pub second: Hashed,
+}
+
+// The whole blocks of two messages of one length together, and then the end of each by itself.
+fn ended(a: &[u8], b: &[u8]) -> Two
+    requires { ⌜ length (now a) ≡ length (now b) ⌝ }
+    ensures { λ r. ⌜ r .first ≡ whole addends (now (a .entry) ++ padding (length (now (a .entry)))) initial ⌝ }
+    ensures { λ r. ⌜ r .second ≡ whole addends (now (b .entry) ++ padding (length (now (b .entry)))) initial ⌝ }
+{
+    let k = addends();
+    let start = Two {
+        first: initial(),
+        second: initial(),
+    };
+    let e = blocks_two(start, a, b, &k);
+    let v = e.first;
+    let u = e.second;
+    let at = a.len() - a.len() % 64;
+    let count = a.len() as u64;
+    Two {
+        first: end(v, &a[at..], count),
+        second: end(u, &b[at..], count),
+    }
+}
+
+fn hashed(w: Words) -> Hashed
+    ensures { λ r. ⌜ (checkOf (r .verdict) ≡ silent) × (r .bytes ≡ digestOf w) ⌝ }
+{
+    Hashed {
+        verdict: Verdict::Passed,
+        bytes: bytes(w),
+    }
+}
+
+// The digests of two messages, or a refusal of each. Of one length they are hashed together.
+pub fn digests(a: &[u8], b: &[u8]) -> TwoHashed
+    ensures first { λ r. ⌜ (checkOf (r .first .verdict) ≡ limited (length (now (a .entry)))) × (r .first .bytes ≡ digestOr0 (now (a .entry))) ⌝ }
+    ensures second { λ r. ⌜ (checkOf (r .second .verdict) ≡ limited (length (now (b .entry)))) × (r .second .bytes ≡ digestOr0 (now (b .entry))) ⌝ }
+{
+    if a.len() == b.len() && within_limit(0, a.len() as u64) {
+        let w = ended(a, b);
+        let v = w.first;
+        let u = w.second;
+        return TwoHashed {
+            first: hashed(v),
+            second: hashed(u),
+        };
+    }
+    TwoHashed {
+        first: digest(a),
+        second: digest(b),
     }
 }
