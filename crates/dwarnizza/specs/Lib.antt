@@ -1,4 +1,5 @@
 pub mod Answer
+pub mod Envelopes
 pub mod Indexes
 pub mod Keys
 pub mod Md5State

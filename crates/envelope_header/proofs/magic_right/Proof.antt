@@ -1,0 +1,28 @@
+-- `envelope_header::magic_right`: eight bytes, and the first four.
+use borrow.Author.Tests.{lt-leb, le-leb}
+use lib.ListN.{length}
+use Rattle.envelope_header.specs.Header.{shortSize, magicRight}
+use borrow.Author.Needs.{needs}
+use Rattle.envelope_header.proofs.magic_right.Statement.{statement}
+use Rattle.envelope_header.proofs.magic_right.Tie as tie
+
+returns : tie.Need-returns
+unfolding magicRight
+returns c = rw (lt-leb shortSize (length (c .before .before .args .file .now)) (c .if1 .taken))
+
+part-requires : tie.Need-part-requires
+part-requires c κs = search needs
+
+slice-aggregate-equal : tie.Need-slice-aggregate-equal
+slice-aggregate-equal c = search needs
+
+equal-requires : tie.Need-equal-requires
+equal-requires c κs = search needs
+
+returns-2 : tie.Need-returns-2
+unfolding magicRight
+returns-2 c = rw (le-leb shortSize (length (c .before .before .before .before .before .args .file .now)) (c .before .before .before .if1 .left), c .equal .ensures, c .before .before .part .ensures)
+
+pub magic-right-spec : {M : Type 1} → statement M
+magic-right-spec =
+    tie.close (tie.spec returns part-requires slice-aggregate-equal equal-requires returns-2)

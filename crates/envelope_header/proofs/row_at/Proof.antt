@@ -1,0 +1,19 @@
+-- `envelope_header::row_at`: the rows before it.
+use mathlib.Core.Path.{refl}
+use Rattle.envelope_header.specs.Header.{rowAt}
+use borrow.Author.Needs.{needs}
+use Rattle.envelope_header.proofs.row_at.Statement.{statement}
+use Rattle.envelope_header.proofs.row_at.Tie as tie
+
+mul-result : tie.Need-mul-result
+mul-result c = search needs
+
+add-result : tie.Need-add-result
+add-result c = search needs
+
+returns : tie.Need-returns
+unfolding rowAt
+returns c = refl
+
+pub row-at-spec : {M : Type 1} → statement M
+row-at-spec = tie.close (tie.spec mul-result add-result returns)
