@@ -41,23 +41,31 @@ enum {
 
 /* The numbers of refusal. */
 enum {
-    DWARNIZZA_INDEX_SHORT = 1,       /* index under 28 bytes */
-    DWARNIZZA_FOOTER_FIELD = 2,      /* a footer field outside its list */
-    DWARNIZZA_FOOTER_HASH = 3,       /* footer hash wrong */
-    DWARNIZZA_ENTRY_COUNT = 4,       /* more than 8,388,608 entries */
-    DWARNIZZA_INDEX_LENGTH = 5,      /* file length wrong */
-    DWARNIZZA_INDEX_PAGE_HASH = 6,   /* page hash wrong; place: page */
-    DWARNIZZA_INDEX_PADDING = 7,     /* padding not zero; place: page */
-    DWARNIZZA_INDEX_ORDER = 8,       /* key not above the one before; place: entry */
-    DWARNIZZA_LAST_KEY = 9,          /* stored last key wrong; place: page */
-    DWARNIZZA_INDEX_KEY_LENGTH = 10, /* sought key not of the index's key length */
-    DWARNIZZA_SETTINGS = 11,         /* settings wrong */
-    DWARNIZZA_LIST_LENGTH = 12,      /* list not whole entries */
-    DWARNIZZA_OUTPUT_SHORT = 13,     /* output shorter than what is to be written */
-    DWARNIZZA_HASH_LIMIT = 50,       /* more than 2^48 bytes hashed */
-    DWARNIZZA_KEY_TEXT_LENGTH = 60,  /* key text not 2 * K characters */
-    DWARNIZZA_HEX_DIGIT = 61,        /* not a hex digit; place: digit */
-    DWARNIZZA_LISTING_INPUT = 70     /* listing input above 65,536 bytes */
+    DWARNIZZA_INDEX_SHORT = 1,           /* index under 28 bytes */
+    DWARNIZZA_FOOTER_FIELD = 2,          /* a footer field outside its list */
+    DWARNIZZA_FOOTER_HASH = 3,           /* footer hash wrong */
+    DWARNIZZA_ENTRY_COUNT = 4,           /* more than 8,388,608 entries */
+    DWARNIZZA_INDEX_LENGTH = 5,          /* file length wrong */
+    DWARNIZZA_INDEX_PAGE_HASH = 6,       /* page hash wrong; place: page */
+    DWARNIZZA_INDEX_PADDING = 7,         /* padding not zero; place: page */
+    DWARNIZZA_INDEX_ORDER = 8,           /* key not above the one before; place: entry */
+    DWARNIZZA_LAST_KEY = 9,              /* stored last key wrong; place: page */
+    DWARNIZZA_INDEX_KEY_LENGTH = 10,     /* sought key not of the index's key length */
+    DWARNIZZA_SETTINGS = 11,             /* settings wrong */
+    DWARNIZZA_LIST_LENGTH = 12,          /* list not whole entries */
+    DWARNIZZA_OUTPUT_SHORT = 13,         /* output shorter than what is to be written */
+    DWARNIZZA_NOT_BLTE = 20,             /* under 8 bytes, or not BLTE */
+    DWARNIZZA_ENVELOPE_HEADER = 21,      /* a header field wrong, or header past the end */
+    DWARNIZZA_CHUNK_SIZES = 22,          /* an empty chunk, or sizes not adding up to the rest */
+    DWARNIZZA_CHUNK_HASH = 23,           /* chunk hash wrong; place: chunk */
+    DWARNIZZA_CHUNK_MODE = 24,           /* chunk mode not N; place: chunk */
+    DWARNIZZA_DECODED_SIZE = 25,         /* decoded size not encoded size less 1; place: chunk */
+    DWARNIZZA_CONTENT_OUTPUT_SHORT = 26, /* output shorter than the content */
+    DWARNIZZA_ENVELOPE_KEY = 27,         /* envelope key not the one given */
+    DWARNIZZA_HASH_LIMIT = 50,           /* more than 2^48 bytes hashed */
+    DWARNIZZA_KEY_TEXT_LENGTH = 60,      /* key text not 2 * K characters */
+    DWARNIZZA_HEX_DIGIT = 61,            /* not a hex digit; place: digit */
+    DWARNIZZA_LISTING_INPUT = 70         /* listing input above 65,536 bytes */
 };
 
 /*
@@ -239,6 +247,60 @@ uint32_t dwarnizza_index_lookup(const uint8_t *index, size_t index_len,
  */
 uint32_t dwarnizza_index_bound(const uint8_t *index, size_t index_len,
                                uint64_t answer[8]);
+
+/*
+ * Envelope
+ *
+ * A BLTE envelope is a header and c chunks. The header is "BLTE", its own size
+ * in 4 bytes, the flags 0x0F, c in 3 bytes, and then for each chunk its encoded
+ * size in 4 bytes, its decoded size in 4 and the MD5 of the encoded chunk: 12 +
+ * 24 * c bytes, numbers big-endian. Where the header size is 0, these 8 bytes
+ * are the header, and the rest is one chunk without sizes and hash. The first
+ * byte of a chunk is its mode; N means that the rest of it is content. Chunks
+ * count from 0. The key of an envelope is the MD5 of its header, or of the
+ * whole file where the header size is 0.
+ *
+ * Opening refuses with the first that holds, in this order:
+ *
+ *     20, 21, 22   the file is no envelope, or its header or sizes are wrong
+ *     27           the key given is not of 16 bytes
+ *     50           the header size is 0 and the file is above 2^48 bytes
+ *     27           the key given is not that of the envelope
+ *     chunk by chunk:
+ *     23, 24, 25   the chunk's hash, its mode, its decoded size is wrong
+ *
+ * 23 and 25 arise only where the header size is not 0.
+ */
+
+/*
+ * The content of an envelope: that of its chunks, in order, with nothing
+ * between. It has fewer bytes than the file.
+ * Answered: the content is written at the start of output, and the bytes past
+ * it stay; answer[0] is how many were written.
+ * Refused: as opening refuses; then 26 where output_len is below the length of
+ * the content.
+ */
+uint32_t dwarnizza_envelope_open(const uint8_t *file, size_t file_len,
+                                 const uint8_t *key, size_t key_len,
+                                 uint8_t *output, size_t output_len,
+                                 uint64_t answer[8]);
+
+/*
+ * The length of an envelope's content.
+ * Answered: answer[0] is how many bytes the content has.
+ * Refused: as opening refuses.
+ */
+uint32_t dwarnizza_envelope_length(const uint8_t *file, size_t file_len,
+                                   const uint8_t *key, size_t key_len,
+                                   uint64_t answer[8]);
+
+/*
+ * The key of an envelope. Its chunks are not judged.
+ * Answered: key is written; no word of the answer is named.
+ * Refused: 20, 21, 22 and 50 as opening refuses.
+ */
+uint32_t dwarnizza_envelope_key(const uint8_t *file, size_t file_len,
+                                uint8_t key[16], uint64_t answer[8]);
 
 /*
  * Key text

@@ -148,7 +148,8 @@ pub fn timed<const N: usize>(mut contenders: [Contender; N]) -> [f64; N] {
         .expect("each contender has its time")
 }
 
-fn repeat<T>(times: u64, mut task: impl FnMut() -> T) {
+/// Does a task so many times.
+pub fn repeat<T>(times: u64, mut task: impl FnMut() -> T) {
     for _ in 0..times {
         black_box(task());
     }

@@ -2,6 +2,7 @@
 //!
 //! One module for each benchmark. Run with `cargo run --release --offline -p bench -- NAME`.
 
+mod envelope;
 mod index;
 mod lookup;
 mod md5;
@@ -11,10 +12,11 @@ use std::env;
 use std::process::ExitCode;
 
 /// Each benchmark by its name.
-const BENCHMARKS: [(&str, fn()); 3] = [
+const BENCHMARKS: [(&str, fn()); 4] = [
     ("md5", md5::run),
     ("index", index::run),
     ("lookup", lookup::run),
+    ("envelope", envelope::run),
 ];
 
 fn main() -> ExitCode {

@@ -71,6 +71,31 @@ unsafe extern "C" {
 
     pub fn dwarnizza_index_bound(index: *const u8, index_len: usize, answer: &mut [u64; 8]) -> u32;
 
+    pub fn dwarnizza_envelope_open(
+        file: *const u8,
+        file_len: usize,
+        key: *const u8,
+        key_len: usize,
+        output: *mut u8,
+        output_len: usize,
+        answer: &mut [u64; 8],
+    ) -> u32;
+
+    pub fn dwarnizza_envelope_length(
+        file: *const u8,
+        file_len: usize,
+        key: *const u8,
+        key_len: usize,
+        answer: &mut [u64; 8],
+    ) -> u32;
+
+    pub fn dwarnizza_envelope_key(
+        file: *const u8,
+        file_len: usize,
+        key: &mut [u8; 16],
+        answer: &mut [u64; 8],
+    ) -> u32;
+
     pub fn dwarnizza_key_text(
         text: *const u8,
         text_len: usize,

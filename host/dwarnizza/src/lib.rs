@@ -4,6 +4,7 @@
 //! Rust's own terms. What the library refuses comes back as a [`Refusal`].
 
 mod answer;
+pub mod envelope;
 mod ffi;
 pub mod index;
 mod key;

@@ -5,6 +5,7 @@
 
 #![forbid(unsafe_code)]
 
+pub mod envelope;
 pub mod index;
 pub mod key;
 pub mod md5;

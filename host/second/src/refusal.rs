@@ -67,6 +67,36 @@ pub const LIST_NOT_WHOLE: Refusal = refusal(12);
 /// Output shorter than the file or list to be written.
 pub const OUTPUT_TOO_SHORT: Refusal = refusal(13);
 
+/// Under 8 bytes, or not BLTE.
+pub const NOT_AN_ENVELOPE: Refusal = refusal(20);
+
+/// Header size, flags or count wrong, no chunk, or header past the end.
+pub const ENVELOPE_HEADER: Refusal = refusal(21);
+
+/// An empty chunk, or sizes not adding up to the rest.
+pub const CHUNK_SIZES: Refusal = refusal(22);
+
+/// Chunk hash wrong.
+pub fn chunk_hash(chunk: usize) -> Refusal {
+    refusal_at(23, chunk)
+}
+
+/// Mode not N.
+pub fn chunk_mode(chunk: usize) -> Refusal {
+    refusal_at(24, chunk)
+}
+
+/// Decoded size not encoded size less 1.
+pub fn decoded_size(chunk: usize) -> Refusal {
+    refusal_at(25, chunk)
+}
+
+/// Output shorter than the content.
+pub const CONTENT_OUTPUT_TOO_SHORT: Refusal = refusal(26);
+
+/// Envelope key not the one given.
+pub const ENVELOPE_KEY: Refusal = refusal(27);
+
 /// More than 2^48 bytes hashed.
 pub const TOO_MUCH_HASHED: Refusal = refusal(50);
 
