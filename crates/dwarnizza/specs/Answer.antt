@@ -12,10 +12,10 @@ result (absent values) = 1
 result (refusal number place) = 2
 
 -- The values, or a refusal's number and place; the other words are 0.
-unfoldable pub wordsOf : Outcome → List ℕ
-wordsOf (answered values) = take 8 (values ++ replicate 8 0)
-wordsOf (absent values) = take 8 (values ++ replicate 8 0)
-wordsOf (refusal number place) = number ∷ place ∷ replicate 6 0
+unfoldable pub answerWords : Outcome → List ℕ
+answerWords (answered values) = take 8 (values ++ replicate 8 0)
+answerWords (absent values) = take 8 (values ++ replicate 8 0)
+answerWords (refusal number place) = number ∷ place ∷ replicate 6 0
 
 -- A check that has no values to give.
 abbrev pub verdictOutcome : Check → Outcome

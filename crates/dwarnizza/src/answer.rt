@@ -4,12 +4,12 @@ use refusal::Verdict;
 ghost use mathlib.Core.Path.{_≡_};
 ghost use Rattle.refusal.specs.Check.{checkOf};
 ghost use Rattle.refusal.specs.Outcome.{refusal};
-ghost use Rattle.dwarnizza.specs.Answer.{result, wordsOf, verdictOutcome};
+ghost use Rattle.dwarnizza.specs.Answer.{result, answerWords, verdictOutcome};
 
 // Lays out a refusal.
 pub(crate) fn refused(r: Refusal, answer: &mut [u64; 8]) -> u32
     ensures { λ n. ⌜ n ≡ result (refusal (r .number) (r .place)) ⌝ }
-    ensures { λ _. ⌜ now (answer .exit) ≡ wordsOf (refusal (r .number) (r .place)) ⌝ }
+    ensures { λ _. ⌜ now (answer .exit) ≡ answerWords (refusal (r .number) (r .place)) ⌝ }
 {
     let number = r.number as u64;
     let place = r.place as u64;
@@ -20,7 +20,7 @@ pub(crate) fn refused(r: Refusal, answer: &mut [u64; 8]) -> u32
 // Lays out the answer of a check that has no values to tell.
 pub(crate) fn tell(verdict: Verdict, answer: &mut [u64; 8]) -> u32
     ensures { λ r. ⌜ r ≡ result (verdictOutcome (checkOf verdict)) ⌝ }
-    ensures { λ _. ⌜ now (answer .exit) ≡ wordsOf (verdictOutcome (checkOf verdict)) ⌝ }
+    ensures { λ _. ⌜ now (answer .exit) ≡ answerWords (verdictOutcome (checkOf verdict)) ⌝ }
 {
     match verdict {
         Verdict::Passed => {

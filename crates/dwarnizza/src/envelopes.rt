@@ -8,7 +8,7 @@ ghost use lib.ListN.{length};
 ghost use Rattle.refusal.specs.Output.{filled};
 ghost use Rattle.envelope.specs.Envelope as envelope;
 ghost use Rattle.dwarnizza.specs.Envelopes.{keyAfter};
-ghost use Rattle.dwarnizza.specs.Answer.{result, wordsOf, verdictOutcome};
+ghost use Rattle.dwarnizza.specs.Answer.{result, answerWords, verdictOutcome};
 
 // The content of an envelope: the bytes written.
 #[no_mangle]
@@ -20,7 +20,7 @@ pub extern "C" fn dwarnizza_envelope_open(
 ) -> u32
     ensures { λ r. ⌜ r ≡ result (envelope.openOutcome (now (file .entry)) (now (key .entry)) (length (now (output .entry)))) ⌝ }
     ensures { λ _. ⌜ now (output .exit) ≡ filled (envelope.openCheck (now (file .entry)) (now (key .entry)) (length (now (output .entry)))) (envelope.content (now (file .entry))) (now (output .entry)) ⌝ }
-    ensures { λ _. ⌜ now (answer .exit) ≡ wordsOf (envelope.openOutcome (now (file .entry)) (now (key .entry)) (length (now (output .entry)))) ⌝ }
+    ensures { λ _. ⌜ now (answer .exit) ≡ answerWords (envelope.openOutcome (now (file .entry)) (now (key .entry)) (length (now (output .entry)))) ⌝ }
 {
     match envelope::open(file, key, output) {
         Content::Refused(r) => refused(r, answer),
@@ -35,7 +35,7 @@ pub extern "C" fn dwarnizza_envelope_open(
 #[no_mangle]
 pub extern "C" fn dwarnizza_envelope_length(file: &[u8], key: &[u8], answer: &mut [u64; 8]) -> u32
     ensures { λ r. ⌜ r ≡ result (envelope.lengthOutcome (now (file .entry)) (now (key .entry))) ⌝ }
-    ensures { λ _. ⌜ now (answer .exit) ≡ wordsOf (envelope.lengthOutcome (now (file .entry)) (now (key .entry))) ⌝ }
+    ensures { λ _. ⌜ now (answer .exit) ≡ answerWords (envelope.lengthOutcome (now (file .entry)) (now (key .entry))) ⌝ }
 {
     match envelope::content_length(file, key) {
         Content::Refused(r) => refused(r, answer),
@@ -55,7 +55,7 @@ pub extern "C" fn dwarnizza_envelope_key(
 ) -> u32
     ensures { λ r. ⌜ r ≡ result (verdictOutcome (envelope.keyOfCheck (now (file .entry)))) ⌝ }
     ensures { λ _. ⌜ now (key .exit) ≡ keyAfter (envelope.keyOfCheck (now (file .entry))) (envelope.envelopeKey (now (file .entry))) (now (key .entry)) ⌝ }
-    ensures { λ _. ⌜ now (answer .exit) ≡ wordsOf (verdictOutcome (envelope.keyOfCheck (now (file .entry)))) ⌝ }
+    ensures { λ _. ⌜ now (answer .exit) ≡ answerWords (verdictOutcome (envelope.keyOfCheck (now (file .entry)))) ⌝ }
 {
     let told = envelope::envelope_key(file);
     let verdict = told.verdict;

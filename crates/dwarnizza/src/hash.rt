@@ -8,7 +8,7 @@ ghost use mathlib.Core.Bool.{cond};
 ghost use Prim.Native.Nat.{_+_};
 ghost use lib.ListN.{length, replicate};
 ghost use Rattle.md5.specs.Message as md5;
-ghost use Rattle.dwarnizza.specs.Answer.{result, wordsOf, verdictOutcome};
+ghost use Rattle.dwarnizza.specs.Answer.{result, answerWords, verdictOutcome};
 ghost use Rattle.dwarnizza.specs.Md5State.{stateOf, wordsTo, wordsAfter};
 
 fn state(words: &[u32; 4], pending: &[u8; 64], count: u64) -> Md5
@@ -32,7 +32,7 @@ fn state(words: &[u32; 4], pending: &[u8; 64], count: u64) -> Md5
 pub extern "C" fn dwarnizza_md5(message: &[u8], digest: &mut [u8; 16], answer: &mut [u64; 8]) -> u32
     ensures { λ r. ⌜ r ≡ result (verdictOutcome (md5.limited (length (now (message .entry))))) ⌝ }
     ensures { λ _. ⌜ now (digest .exit) ≡ cond (md5.tooLong (length (now (message .entry)))) (now (digest .entry)) (md5.md5 (now (message .entry))) ⌝ }
-    ensures { λ _. ⌜ now (answer .exit) ≡ wordsOf (verdictOutcome (md5.limited (length (now (message .entry))))) ⌝ }
+    ensures { λ _. ⌜ now (answer .exit) ≡ answerWords (verdictOutcome (md5.limited (length (now (message .entry))))) ⌝ }
 {
     let hashed = md5::digest(message);
     let verdict = hashed.verdict;
@@ -79,7 +79,7 @@ pub extern "C" fn dwarnizza_md5_update(
     ensures { λ _. ⌜ now (words .exit) ≡ wordsAfter (now (words .entry)) (now (pending .entry)) (now (count .entry)) (now (part .entry)) ⌝ }
     ensures { λ _. ⌜ now (pending .exit) ≡ (md5.updated (stateOf (now (words .entry)) (now (pending .entry)) (now (count .entry))) (now (part .entry))) .pending ⌝ }
     ensures { λ _. ⌜ now (count .exit) ≡ (md5.updated (stateOf (now (words .entry)) (now (pending .entry)) (now (count .entry))) (now (part .entry))) .count ⌝ }
-    ensures { λ _. ⌜ now (answer .exit) ≡ wordsOf (verdictOutcome (md5.limited (now (count .entry) + length (now (part .entry))))) ⌝ }
+    ensures { λ _. ⌜ now (answer .exit) ≡ answerWords (verdictOutcome (md5.limited (now (count .entry) + length (now (part .entry))))) ⌝ }
 {
     let n = *count;
     let updated = state(words, pending, n).update(part);

@@ -17,14 +17,14 @@ ghost use Rattle.lookup.specs.Lookup.{lookupOf, boundOf};
 ghost use Rattle.index_file.specs.File.{fileOf};
 ghost use Rattle.writer.specs.Write.{layoutFor, writeCheck, writeOutcome};
 ghost use Rattle.listing.specs.Listing.{textOf, listingCheck, listingOutcome, fitted};
-ghost use Rattle.dwarnizza.specs.Answer.{result, wordsOf};
+ghost use Rattle.dwarnizza.specs.Answer.{result, answerWords};
 ghost use Rattle.dwarnizza.specs.Indexes.{settingsFrom};
 
 // The full check: version, offset width, key length, entries and pages.
 #[no_mangle]
 pub extern "C" fn dwarnizza_index_check(index: &[u8], answer: &mut [u64; 8]) -> u32
     ensures { λ r. ⌜ r ≡ result (checkOutcome (now (index .entry))) ⌝ }
-    ensures { λ _. ⌜ now (answer .exit) ≡ wordsOf (checkOutcome (now (index .entry))) ⌝ }
+    ensures { λ _. ⌜ now (answer .exit) ≡ answerWords (checkOutcome (now (index .entry))) ⌝ }
 {
     match index::check(index) {
         Checked::Refused(r) => refused(r, answer),
@@ -49,7 +49,7 @@ pub extern "C" fn dwarnizza_index_list(
 ) -> u32
     ensures { λ r. ⌜ r ≡ result (listOutcome (now (index .entry)) (length (now (output .entry)))) ⌝ }
     ensures { λ _. ⌜ now (output .exit) ≡ filled (listCheck (now (index .entry)) (length (now (output .entry)))) (listOf (now (index .entry))) (now (output .entry)) ⌝ }
-    ensures { λ _. ⌜ now (answer .exit) ≡ wordsOf (listOutcome (now (index .entry)) (length (now (output .entry)))) ⌝ }
+    ensures { λ _. ⌜ now (answer .exit) ≡ answerWords (listOutcome (now (index .entry)) (length (now (output .entry)))) ⌝ }
 {
     match entries::list(index, output) {
         Listed::Refused(r) => refused(r, answer),
@@ -64,7 +64,7 @@ pub extern "C" fn dwarnizza_index_list(
 #[no_mangle]
 pub extern "C" fn dwarnizza_index_lookup(index: &[u8], key: &[u8], answer: &mut [u64; 8]) -> u32
     ensures { λ r. ⌜ r ≡ result (lookupOf (now (index .entry)) (now (key .entry))) ⌝ }
-    ensures { λ _. ⌜ now (answer .exit) ≡ wordsOf (lookupOf (now (index .entry)) (now (key .entry))) ⌝ }
+    ensures { λ _. ⌜ now (answer .exit) ≡ answerWords (lookupOf (now (index .entry)) (now (key .entry))) ⌝ }
 {
     match lookup::lookup(index, key) {
         Answer::Refused(r) => refused(r, answer),
@@ -90,7 +90,7 @@ pub extern "C" fn dwarnizza_index_lookup(index: &[u8], key: &[u8], answer: &mut 
 #[no_mangle]
 pub extern "C" fn dwarnizza_index_bound(index: &[u8], answer: &mut [u64; 8]) -> u32
     ensures { λ r. ⌜ r ≡ result (boundOf (now (index .entry))) ⌝ }
-    ensures { λ _. ⌜ now (answer .exit) ≡ wordsOf (boundOf (now (index .entry))) ⌝ }
+    ensures { λ _. ⌜ now (answer .exit) ≡ answerWords (boundOf (now (index .entry))) ⌝ }
 {
     match lookup::bound(index) {
         Bounded::Refused(r) => refused(r, answer),
@@ -113,7 +113,7 @@ pub extern "C" fn dwarnizza_index_write(
 ) -> u32
     ensures { λ r. ⌜ r ≡ result (writeOutcome (settingsFrom version «offset_width» «key_length») (now (list .entry)) (length (now (output .entry)))) ⌝ }
     ensures { λ _. ⌜ now (output .exit) ≡ filled (writeCheck (settingsFrom version «offset_width» «key_length») (now (list .entry)) (length (now (output .entry)))) (fileOf (now (list .entry)) (layoutFor (settingsFrom version «offset_width» «key_length») (now (list .entry)))) (now (output .entry)) ⌝ }
-    ensures { λ _. ⌜ now (answer .exit) ≡ wordsOf (writeOutcome (settingsFrom version «offset_width» «key_length») (now (list .entry)) (length (now (output .entry)))) ⌝ }
+    ensures { λ _. ⌜ now (answer .exit) ≡ answerWords (writeOutcome (settingsFrom version «offset_width» «key_length») (now (list .entry)) (length (now (output .entry)))) ⌝ }
 {
     let settings = Settings {
         version,
@@ -138,7 +138,7 @@ pub extern "C" fn dwarnizza_index_listing(
 ) -> u32
     ensures { λ r. ⌜ r ≡ result (listingOutcome (now (input .entry))) ⌝ }
     ensures { λ _. ⌜ now (output .exit) ≡ fitted (listingCheck (now (input .entry))) (textOf (now (input .entry))) (now (output .entry)) ⌝ }
-    ensures { λ _. ⌜ now (answer .exit) ≡ wordsOf (listingOutcome (now (input .entry))) ⌝ }
+    ensures { λ _. ⌜ now (answer .exit) ≡ answerWords (listingOutcome (now (input .entry))) ⌝ }
 {
     match listing::listing(input, output) {
         ListingText::Refused(r) => refused(r, answer),

@@ -6,7 +6,7 @@ use refusal::Verdict;
 ghost use mathlib.Core.Path.{_≡_};
 ghost use Rattle.refusal.specs.Output.{filled};
 ghost use Rattle.key_text.specs.Text.{textCheck, textBytes};
-ghost use Rattle.dwarnizza.specs.Answer.{result, wordsOf};
+ghost use Rattle.dwarnizza.specs.Answer.{result, answerWords};
 ghost use Rattle.dwarnizza.specs.Keys.{textOutcome};
 
 // The key of `length` bytes that a text tells, in the first bytes of `key`. A refusal leaves the key's bytes.
@@ -19,7 +19,7 @@ pub extern "C" fn dwarnizza_key_text(
 ) -> u32
     ensures { λ r. ⌜ r ≡ result (textOutcome (now (text .entry)) length) ⌝ }
     ensures { λ _. ⌜ now (key .exit) ≡ filled (textCheck (now (text .entry)) length) (textBytes (now (text .entry))) (now (key .entry)) ⌝ }
-    ensures { λ _. ⌜ now (answer .exit) ≡ wordsOf (textOutcome (now (text .entry)) length) ⌝ }
+    ensures { λ _. ⌜ now (answer .exit) ≡ answerWords (textOutcome (now (text .entry)) length) ⌝ }
 {
     let read = key_text::from_text(text, length);
     let verdict = read.verdict;

@@ -21,7 +21,7 @@ use Rattle.refusal.proofs.Laws.{said, quiet, silent-test, refused-test, first-s
 use Rattle.envelope_header.specs.declared.Header.{Header}
 use Rattle.envelope_header.specs.Header.{headerOf, tableAt, rowSize, shortSize, tabled, chunkCount, headerLength, rowAt, encodedSize, decodedSize, chunkHash, chunkAt, emptyCheck, sumCheck, magicCheck, headerCheck, sizesCheck, opening}
 use Rattle.envelope_header.proofs.Laws.{chunk-after, chunk-upto}
-use Rattle.envelope.specs.Envelope.{chunkOf, sizeOrNone, contentOf, contentBy, hashCheck, modeCheck, decodedCheck, chunkCheck, chunksCheck, keyed, limitCheck, envelopeKey, keyOfCheck, carriedKey, keyCheck, contentCheck}
+use Rattle.envelope.specs.Envelope.{chunkOf, sizeOrNone, contentOf, contentBy, hashCheck, modeCheck, decodedCheck, chunkCheck, chunksCheck, keyed, limitCheck, envelopeKey, keyOfCheck, carriedKey, envelopeKeyCheck, contentCheck}
 
 module _ (s : List ℕ) (h : Header) (e : sizesCheck s h ≡ silent) where
   pub whole : chunkAt s h (chunkCount h) ≡ length s
@@ -186,4 +186,4 @@ opened-sizes s h e g = ap (sizesCheck s) g ∙ first-right (headerCheck s) (size
 
 pub judged-sizes : (s key : List ℕ) (h : Header) → contentCheck s key ≡ silent → h ≡ headerOf s → sizesCheck s h ≡ silent
 unfolding contentCheck
-judged-sizes s key h e g = opened-sizes s h (first-left (opening s) (first (keyCheck s key) (chunksCheck s (headerOf s))) e) g
+judged-sizes s key h e g = opened-sizes s h (first-left (opening s) (first (envelopeKeyCheck s key) (chunksCheck s (headerOf s))) e) g

@@ -16,27 +16,27 @@ use Rattle.refusal.specs.Number.{envelope-key, chunk-hash, chunk-mode, decoded-
 use Rattle.refusal.proofs.Laws.{silent-test, first-left, first-right, from-each}
 use Rattle.envelope_header.specs.declared.Header.{Header}
 use Rattle.envelope_header.specs.Header.{headerOf, tabled, chunkCount, encodedSize, decodedSize, chunkHash, opening}
-use Rattle.envelope.specs.Envelope.{chunkOf, plainMode, modeOf, contentOf, contentBy, content, envelopeKey, limitCheck, keyCheck, hashCheck, modeCheck, decodedCheck, chunkCheck, chunksCheck, contentCheck}
+use Rattle.envelope.specs.Envelope.{chunkOf, plainMode, modeOf, contentOf, contentBy, content, envelopeKey, limitCheck, envelopeKeyCheck, hashCheck, modeCheck, decodedCheck, chunkCheck, chunksCheck, contentCheck}
 use Rattle.envelope.specs.Content.{decodedFrom, Opens, OpensTable}
 use Rattle.envelope.proofs.Laws.{judged-sizes, content-length}
 
 module _ (s key : List ℕ) (e : contentCheck s key ≡ silent) where
-  after-opening : first (keyCheck s key) (chunksCheck s (headerOf s)) ≡ silent
+  after-opening : first (envelopeKeyCheck s key) (chunksCheck s (headerOf s)) ≡ silent
   unfolding contentCheck
-  after-opening = first-right (opening s) (first (keyCheck s key) (chunksCheck s (headerOf s))) e
+  after-opening = first-right (opening s) (first (envelopeKeyCheck s key) (chunksCheck s (headerOf s))) e
 
   chunk-silent : (i : ℕ) → i < chunkCount (headerOf s) → chunkCheck s (headerOf s) i ≡ silent
   unfolding chunksCheck
-  chunk-silent i l = simp zero-add at (from-each (chunkCheck s (headerOf s)) 0 (chunkCount (headerOf s)) (first-right (keyCheck s key) (chunksCheck s (headerOf s)) after-opening) i l)
+  chunk-silent i l = simp zero-add at (from-each (chunkCheck s (headerOf s)) 0 (chunkCount (headerOf s)) (first-right (envelopeKeyCheck s key) (chunksCheck s (headerOf s)) after-opening) i l)
 
   rest-silent : (i : ℕ) → i < chunkCount (headerOf s) → first (modeCheck s (headerOf s) i) (decodedCheck s (headerOf s) i) ≡ silent
   unfolding chunkCheck
   rest-silent i l = first-right (hashCheck s (headerOf s) i) (first (modeCheck s (headerOf s) i) (decodedCheck s (headerOf s) i)) (chunk-silent i l)
 
   key-same : envelopeKey s ≡ key
-  unfolding keyCheck
+  unfolding envelopeKeyCheck
   key-same =
-      let keyed = first-left (keyCheck s key) (chunksCheck s (headerOf s)) after-opening in
+      let keyed = first-left (envelopeKeyCheck s key) (chunksCheck s (headerOf s)) after-opening in
       let last = first-right (limitCheck s (headerOf s)) (refusedIf (not (sameBytes (envelopeKey s) key)) envelope-key 0)
       (first-right (refusedIf (not (eqb (length key) 16)) envelope-key 0) (first (limitCheck s (headerOf s)) (refusedIf (not (sameBytes (envelopeKey s) key)) envelope-key 0)) keyed) in
       sameBytes-eq (envelopeKey s) key (not-false _ (silent-test (not (sameBytes (envelopeKey s) key)) envelope-key 0 last))

@@ -52,8 +52,8 @@ abbrev pub limitCheck : List ℕ → Header → Check
 limitCheck s h = cond (tabled h) silent (limited (length s))
 
 -- 27: a key not 16 bytes; else 50; else a key that is not the envelope's.
-unfoldable pub keyCheck : List ℕ → List ℕ → Check
-keyCheck s key =
+unfoldable pub envelopeKeyCheck : List ℕ → List ℕ → Check
+envelopeKeyCheck s key =
     first (refusedIf (not (eqb (length key) 16)) envelope-key 0)
     (first (limitCheck s (headerOf s))
     (refusedIf (not (sameBytes (envelopeKey s) key)) envelope-key 0))
@@ -80,7 +80,7 @@ chunksCheck s h = firstFrom (chunkCheck s h) 0 (chunkCount h)
 
 -- 20 to 22, 27, then chunk by chunk 23 to 25.
 unfoldable pub contentCheck : List ℕ → List ℕ → Check
-contentCheck s key = first (opening s) (first (keyCheck s key) (chunksCheck s (headerOf s)))
+contentCheck s key = first (opening s) (first (envelopeKeyCheck s key) (chunksCheck s (headerOf s)))
 
 -- What a file that is judged so gives: what its header says.
 abbrev pub judgedOutcome : List ℕ → List ℕ → Outcome

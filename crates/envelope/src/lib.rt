@@ -45,7 +45,7 @@ fn keyed(file: &[u8], h: Header) -> &[u8]
 // Refusals 27 and 50.
 fn check_key(file: &[u8], h: Header, key: &[u8]) -> Verdict
     requires { ⌜ h ≡ header.headerOf (now file) ⌝ }
-    ensures { λ r. ⌜ checkOf r ≡ spec.keyCheck (now (file .entry)) (now (key .entry)) ⌝ }
+    ensures { λ r. ⌜ checkOf r ≡ spec.envelopeKeyCheck (now (file .entry)) (now (key .entry)) ⌝ }
 {
     if key.len() != 16 {
         return refuse(ENVELOPE_KEY, 0);

@@ -17,7 +17,7 @@ use Rattle.md5.specs.declared.Md5.{Md5}
 use Rattle.md5.specs.declared.Updated.{Updated}
 use Rattle.md5.specs.Message.{padding, waiting, stateAfter, absorbed, finished, fresh, digestOf, initial, md5, tooLong}
 use Rattle.md5.specs.Cutting.{Updates, Run, done, next, AllPassed, none, more, joined, Cut, AnyCutting}
-use Rattle.md5_end.specs.End.{rest, filled}
+use Rattle.md5_end.specs.End.{rest, zeroFilled}
 use Rattle.md5_end.proofs.EndLaws.{rest-length, whole-rest, rest-append}
 use Rattle.md5.proofs.MessageLaws.{state-is}
 
@@ -27,13 +27,13 @@ unfolding stateAfter
 state-waiting m = take-at (rest m) (replicate (64 - length (rest m)) 0) (length m % 64) (rest-length m)
 
 -- bytes laid over zeros after others
-laid-after : (r p : List ℕ) (n : ℕ) → length r ≡ n → n + length p ≤ 64 → overlay (filled r) n p ≡ filled (r ++ p)
+laid-after : (r p : List ℕ) (n : ℕ) → length r ≡ n → n + length p ≤ 64 → overlay (zeroFilled r) n p ≡ zeroFilled (r ++ p)
 laid-after r p n h k =
-    let room : n + length p ≤ length (filled r) = simp (length-append, length-replicate) (omega arith) in
+    let room : n + length p ≤ length (zeroFilled r) = simp (length-append, length-replicate) (omega arith) in
     let left : 64 - length r ≡ length p + (64 - length (r ++ p)) = simp length-append (omega arith) in
-    overlay-inside (filled r) n p room
-    ∙ ap (λ x. take n (filled r) ++ p ++ x)
-    (ap (λ i. drop (i + length p) (filled r)) (sym h) ∙ drop-append-add r (replicate (64 - length r) 0) (length p)
+    overlay-inside (zeroFilled r) n p room
+    ∙ ap (λ x. take n (zeroFilled r) ++ p ++ x)
+    (ap (λ i. drop (i + length p) (zeroFilled r)) (sym h) ∙ drop-append-add r (replicate (64 - length r) 0) (length p)
     ∙ ap (drop (length p)) (ap (λ i. replicate i 0) left ∙ sym (replicate-append-replicate (length p) (64 - length (r ++ p)) 0))
     ∙ drop-at (replicate (length p) 0) (replicate (64 - length (r ++ p)) 0) (length p) (length-replicate (length p) 0))
     ∙ ap (λ x. x ++ p ++ replicate (64 - length (r ++ p)) 0) (take-at r (replicate (64 - length r) 0) n h)
@@ -44,15 +44,15 @@ rest-small s h =
     ap (λ i. drop i s) zero
 
 pending-more : (m p : List ℕ)
-    → cond (ltb (length m % 64 + length p) 64) (overlay (filled (rest m)) (length m % 64) p) (filled (rest (rest m ++ p))) ≡ filled (rest (m ++ p))
+    → cond (ltb (length m % 64 + length p) 64) (overlay (zeroFilled (rest m)) (length m % 64) p) (zeroFilled (rest (rest m ++ p))) ≡ zeroFilled (rest (m ++ p))
 pending-more m p = go (ltb (length m % 64 + length p) 64) refl
   where
-    go : (b : Bool) → ltb (length m % 64 + length p) 64 ≡ b → cond b (overlay (filled (rest m)) (length m % 64) p) (filled (rest (rest m ++ p))) ≡ filled (rest (m ++ p))
+    go : (b : Bool) → ltb (length m % 64 + length p) 64 ≡ b → cond b (overlay (zeroFilled (rest m)) (length m % 64) p) (zeroFilled (rest (rest m ++ p))) ≡ zeroFilled (rest (m ++ p))
     go true e =
         let below : length m % 64 + length p < 64 = ltb-true _ _ e in
         let small : length (rest m ++ p) < 64 = rw (length-append, rest-length) below in
-        laid-after (rest m) p (length m % 64) (rest-length m) (omega arith) ∙ ap filled (sym (rest-small (rest m ++ p) small) ∙ sym (rest-append m p))
-    go false e = ap filled (sym (rest-append m p))
+        laid-after (rest m) p (length m % 64) (rest-length m) (omega arith) ∙ ap zeroFilled (sym (rest-small (rest m ++ p) small) ∙ sym (rest-append m p))
+    go false e = ap zeroFilled (sym (rest-append m p))
 
 -- one more part after some bytes
 pub state-more : (m p : List ℕ) → absorbed (stateAfter m) p ≡ stateAfter (m ++ p)
@@ -60,7 +60,7 @@ unfolding stateAfter absorbed
 state-more m p =
     let w : waiting (stateAfter m) ≡ rest m = state-waiting m in
     state-is (ap (λ l. whole addends (l ++ p) (whole addends m initial)) w ∙ sym (whole-rest addends m p initial))
-    (ap (λ l. cond (ltb (length m % 64 + length p) 64) (overlay (filled (rest m)) (length m % 64) p) (filled (rest (l ++ p)))) w ∙ pending-more m p)
+    (ap (λ l. cond (ltb (length m % 64 + length p) 64) (overlay (zeroFilled (rest m)) (length m % 64) p) (zeroFilled (rest (l ++ p)))) w ∙ pending-more m p)
     (sym (length-append m p))
 
 pub state-end : (m : List ℕ) → finished (stateAfter m) ≡ md5 m

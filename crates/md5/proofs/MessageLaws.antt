@@ -15,7 +15,7 @@ use Rattle.parts.proofs.Laws.{overlay-inside, overlay-after, part-to-end}
 use Rattle.md5_block.specs.declared.Words.{Words}
 use Rattle.md5_block.specs.Block.{addends, wordsOf, block, blocks, whole}
 use Rattle.md5_block.proofs.BlockLaws.{whole-append, whole-none, whole-one, blocks-append}
-use Rattle.md5_end.specs.End.{zeros, rest, filled}
+use Rattle.md5_end.specs.End.{zeros, rest, zeroFilled}
 use Rattle.md5_end.proofs.EndLaws.{over-zeros, rest-length}
 use Rattle.md5.specs.declared.Md5.{Md5}
 use Rattle.md5.specs.Message.{padding, waiting, absorbed, digestOf, initial, md5, tooLong, digestOr0}
@@ -37,9 +37,9 @@ absorb-short s part new size h e =
     let small : length (waiting s ++ part) < 64 = rw (length-append, length-take-le (s .count % 64) (s .pending) inside) (omega arith) in
     let test : ltb (s .count % 64 + length part) 64 ≡ true = lt-ltb (s .count % 64 + length part) 64 (omega arith) in
     state-is (sym (whole-none addends (waiting s ++ part) (s .words) small))
-    (e ∙ ap (λ b. cond b (overlay (s .pending) (s .count % 64) part) (filled (rest (waiting s ++ part)))) (sym test)) refl
+    (e ∙ ap (λ b. cond b (overlay (s .pending) (s .count % 64) part) (zeroFilled (rest (waiting s ++ part)))) (sym test)) refl
 
--- a part that fills the block: the filled block is a, the whole blocks of what is left follow, and the rest waits
+-- a part that fills the block: the zeroFilled block is a, the whole blocks of what is left follow, and the rest waits
 module _ (s : Md5) (part : List ℕ) (size : length (s .pending) ≡ 64) (h : 64 - s .count % 64 ≤ length part) where
   a : List ℕ
   a = take (s .count % 64) (s .pending) ++ take (64 - s .count % 64) part
@@ -82,8 +82,8 @@ module _ (s : Md5) (part : List ℕ) (size : length (s .pending) ≡ 64) (h : 64
       y ∙ ap₂ (λ t w. whole t left w) q one ∙ sym (whole-append addends 1 a left (s .words) a-length) ∙ ap (λ l. whole addends l (s .words)) all in
       let short : length (rest left) ≤ 64 = rw rest-length (omega arith) in
       let test : ltb (s .count % 64 + length part) 64 ≡ false = le-ltb (s .count % 64 + length part) 64 (omega arith) in
-      let pending : new ≡ filled (rest (waiting s ++ part)) = z ∙ over-zeros (rest left) short ∙ ap filled (sym (rest-is left) ∙ ap rest all) in
-      state-is words (pending ∙ ap (λ b. cond b (overlay (s .pending) (s .count % 64) part) (filled (rest (waiting s ++ part)))) (sym test)) refl
+      let pending : new ≡ zeroFilled (rest (waiting s ++ part)) = z ∙ over-zeros (rest left) short ∙ ap zeroFilled (sym (rest-is left) ∙ ap rest all) in
+      state-is words (pending ∙ ap (λ b. cond b (overlay (s .pending) (s .count % 64) part) (zeroFilled (rest (waiting s ++ part)))) (sym test)) refl
 
 -- the limit, by a difference that cannot wrap
 over : (count n : ℕ) → 2 ^ 48 < count + n → tooLong (count + n) ≡ true

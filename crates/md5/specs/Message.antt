@@ -5,7 +5,7 @@ use Prim.Native.Nat.{ℕ, _+_, _%_, _^_}
 use lib.Dec.{ltb}
 use lib.ListN.{length, take, replicate}
 use Rattle.md5_block.specs.Block.{addends, whole}
-use Rattle.md5_end.specs.End.{rest, filled}
+use Rattle.md5_end.specs.End.{rest, zeroFilled}
 use Rattle.md5.specs.declared.Md5.{Md5}
 use Rattle.parts.specs.Part.{overlay}
 use Rattle.refusal.specs.Check.{Check, refusedIf}
@@ -22,7 +22,7 @@ unfoldable pub fresh : Md5
 fresh = record { words = initial; pending = replicate 64 0; count = 0 }
 
 unfoldable pub stateAfter : List ℕ → Md5
-stateAfter m = record { words = whole addends m initial; pending = filled (rest m); count = length m }
+stateAfter m = record { words = whole addends m initial; pending = zeroFilled (rest m); count = length m }
 
 -- The bytes of a state that wait for their block to be whole.
 abbrev pub waiting : Md5 → List ℕ
@@ -31,7 +31,7 @@ waiting s = take (s .count % 64) (s .pending)
 -- The pending bytes after one more part: the part is laid after the waiting bytes, and once a block is whole what is left
 -- stands alone, with zeros after it. So the bytes past the waiting ones are zeros where they were zeros before.
 abbrev pub pendingAfter : Md5 → List ℕ → List ℕ
-pendingAfter s part = cond (ltb (s .count % 64 + length part) 64) (overlay (s .pending) (s .count % 64) part) (filled (rest (waiting s ++ part)))
+pendingAfter s part = cond (ltb (s .count % 64 + length part) 64) (overlay (s .pending) (s .count % 64) part) (zeroFilled (rest (waiting s ++ part)))
 
 -- Any state after one more part.
 unfoldable pub absorbed : Md5 → List ℕ → Md5

@@ -15,7 +15,7 @@ use Rattle.parts.proofs.Laws.{overlay-inside, overlay-after, part-to-end}
 use Rattle.md5_block.specs.declared.Words.{Words}
 use Rattle.md5_block.specs.Block.{wordsOf, block, blocks, whole}
 use Rattle.md5_block.proofs.BlockLaws.{whole-append, whole-none, whole-one, blocks-append}
-use Rattle.md5_end.specs.End.{littleBytes, padded, zeros, rest, filled}
+use Rattle.md5_end.specs.End.{littleBytes, padded, zeros, rest, zeroFilled}
 
 -- a number's eight bytes, by one division each
 pub eight-bytes : (x : ℕ) → littleBytes 8 x
@@ -80,7 +80,7 @@ over-replicate n p h =
     (ap₂ (λ i m. drop i (replicate m 0)) (zero-add (length p)) all ∙ ap (drop (length p)) (sym (replicate-append-replicate (length p) k 0))
     ∙ drop-at (replicate (length p) 0) (replicate k 0) (length p) (length-replicate (length p) 0))
 
-pub over-zeros : (p : List ℕ) → length p ≤ 64 → overlay (replicate 64 0) 0 p ≡ filled p
+pub over-zeros : (p : List ℕ) → length p ≤ 64 → overlay (replicate 64 0) 0 p ≡ zeroFilled p
 over-zeros p h = over-replicate 64 p h
 
 -- two parts of eight bytes

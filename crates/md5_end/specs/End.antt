@@ -34,5 +34,5 @@ abbrev pub rest : List ℕ → List ℕ
 rest s = drop (length s / 64 * 64) s
 
 -- Fewer than 64 bytes as a block, with zeros after them.
-abbrev pub filled : List ℕ → List ℕ
-filled s = s ++ replicate (64 - length s) 0
+abbrev pub zeroFilled : List ℕ → List ℕ
+zeroFilled s = s ++ replicate (64 - length s) 0

@@ -9,7 +9,7 @@ use Rattle.refusal.specs.Number.{envelope-key}
 use Rattle.refusal.proofs.Laws.{said, quiet, first-said, skip, refused-is, passed-is}
 use Rattle.parts.specs.Part.{sameBytes}
 use Rattle.md5.specs.Message.{md5, limited}
-use Rattle.envelope.specs.Envelope.{keyed, limitCheck, keyCheck}
+use Rattle.envelope.specs.Envelope.{keyed, limitCheck, envelopeKeyCheck}
 use Rattle.envelope.proofs.Laws.{limit-judged, hashed}
 use borrow.Author.Needs.{needs}
 use Rattle.envelope.proofs.check_key.Statement.{statement}
@@ -19,7 +19,7 @@ refuse-requires : tie.Need-refuse-requires
 refuse-requires c κs = search needs
 
 returns : tie.Need-returns
-unfolding keyCheck
+unfolding envelopeKeyCheck
 returns c = c .refuse .ensures ∙ sym (first-said _ (said refl (rw (ne-eqb _ 16 (c .before .if1 .taken)))))
 
 keyed-requires : tie.Need-keyed-requires
@@ -32,7 +32,7 @@ enum-told : tie.Need-enum-told
 enum-told c = search needs
 
 returns-2 : tie.Need-returns-2
-unfolding keyCheck checkOf
+unfolding envelopeKeyCheck checkOf
 returns-2 c =
     let start = c .before .before .before .before .before .before .before .before in
     let d = c .before .before .before .digest in
@@ -56,7 +56,7 @@ refuse-requires-2 : tie.Need-refuse-requires-2
 refuse-requires-2 c κs = search needs
 
 returns-3 : tie.Need-returns-3
-unfolding keyCheck
+unfolding envelopeKeyCheck
 returns-3 c =
     let start = c .before .before .before .before .before .before .before .before .before .before .before .before in
     let d = c .before .before .before .before .before .before .before .digest in
@@ -70,7 +70,7 @@ returns-3 c =
     c .refuse2 .ensures ∙ sym (skip sixteen (skip quiet-lim (said refl (ap not (sym (c .before .before .equal .ensures ∙ ap (λ b. sameBytes b (start .args .key .now)) is)) ∙ c .before .if2 .taken))))
 
 returns-4 : tie.Need-returns-4
-unfolding keyCheck checkOf
+unfolding envelopeKeyCheck checkOf
 returns-4 c =
     let start = c .before .before .before .before .before .before .before .before .before .before .before in
     let d = c .before .before .before .before .before .before .digest in

@@ -1,4 +1,4 @@
--- `md5::fill`: the filled block, the whole blocks after it, and what is left.
+-- `md5::fill`: the zeroFilled block, the whole blocks after it, and what is left.
 use mathlib.Core.Path.{_≡_, sym}
 use Prim.Native.Nat.{_-_, _%_}
 use lib.ListN.{length}

@@ -1,6 +1,6 @@
 -- `dwarnizza::answer::refused`: number and place.
 use mathlib.Core.Path.{refl}
-use Rattle.dwarnizza.specs.Answer.{result, wordsOf}
+use Rattle.dwarnizza.specs.Answer.{result, answerWords}
 use borrow.Author.Needs.{needs}
 use Rattle.dwarnizza.proofs.answer.refused.Statement.{statement}
 use Rattle.dwarnizza.proofs.answer.refused.Tie as tie
@@ -9,7 +9,7 @@ cast-number : tie.Need-cast-number
 cast-number c = search needs
 
 returns : tie.Need-returns
-unfolding result wordsOf
+unfolding result answerWords
 returns c =
     (refl, refl)
 

@@ -2,7 +2,7 @@
 use mathlib.Core.Path.{refl}
 use Rattle.refusal.specs.Check.{checkOf}
 use Rattle.refusal.specs.Outcome.{after}
-use Rattle.dwarnizza.specs.Answer.{result, wordsOf}
+use Rattle.dwarnizza.specs.Answer.{result, answerWords}
 use borrow.Author.Needs.{needs}
 use Rattle.dwarnizza.proofs.answer.tell.Statement.{statement}
 use Rattle.dwarnizza.proofs.answer.tell.Tie as tie
@@ -17,7 +17,7 @@ refused-requires : tie.Need-refused-requires
 refused-requires c κs = search needs
 
 returns : tie.Need-returns
-unfolding checkOf after result wordsOf
+unfolding checkOf after result answerWords
 returns c =
     rw (c .before .enum-told .given .1) (refl, refl)
 

@@ -1,7 +1,7 @@
 -- `dwarnizza::envelopes::dwarnizza_envelope_open`: what `envelope::open` answers, laid out.
 use mathlib.Core.Path.{_≡_, sym, ap, _∙_}
 use Rattle.envelope.specs.Envelope.{outcome}
-use Rattle.dwarnizza.specs.Answer.{result, wordsOf}
+use Rattle.dwarnizza.specs.Answer.{result, answerWords}
 use borrow.Author.Needs.{needs}
 use Rattle.dwarnizza.proofs.envelopes.dwarnizza_envelope_open.Statement.{statement}
 use Rattle.dwarnizza.proofs.envelopes.dwarnizza_envelope_open.Tie as tie
@@ -26,17 +26,17 @@ unfolding outcome
 returns c =
     let o = c .before .before .before .before .before .before .before .«open» in
     let e = sym (ap outcome (c .before .before .before .r .given .1)) ∙ o .ensures .0 in
-    (c .refused .ensures .0 ∙ ap result e, (o .ensures .1, c .refused .ensures .1 ∙ ap wordsOf e))
+    (c .refused .ensures .0 ∙ ap result e, (o .ensures .1, c .refused .ensures .1 ∙ ap answerWords e))
 
 same-length-2 : tie.Need-same-length-2
 same-length-2 c = search needs
 
 returns-2 : tie.Need-returns-2
-unfolding outcome result wordsOf
+unfolding outcome result answerWords
 returns-2 c =
     let o = c .before .before .before .before .before .before .«open» in
     let e = sym (ap outcome (c .before .before .bytes .given .1)) ∙ o .ensures .0 in
-    (ap result e, (o .ensures .1, ap wordsOf e))
+    (ap result e, (o .ensures .1, ap answerWords e))
 
 pub dwarnizza-envelope-open-spec : {M : Type 1} → statement M
 dwarnizza-envelope-open-spec =

@@ -6,7 +6,7 @@ use Rattle.refusal.specs.Check.{checkOf}
 use Rattle.refusal.specs.Number.{hash-limit}
 use Rattle.refusal.proofs.Laws.{silent-test, refused-test}
 use Rattle.md5.specs.Message.{tooLong}
-use Rattle.dwarnizza.specs.Answer.{result, wordsOf, verdictOutcome}
+use Rattle.dwarnizza.specs.Answer.{result, answerWords, verdictOutcome}
 use borrow.Author.Needs.{needs}
 use Rattle.dwarnizza.proofs.hash.dwarnizza_md5.Statement.{statement}
 use Rattle.dwarnizza.proofs.hash.dwarnizza_md5.Tie as tie
@@ -26,7 +26,7 @@ returns c =
     let n = length (c .before .before .before .before .before .before .before .args .message .now) in
     let d = c .before .before .before .before .before .digest in
     let e : tooLong n ≡ false = silent-test (tooLong n) hash-limit 0 (sym (d .ensures .0) ∙ ap checkOf (c .before .before .enum-told .given .1)) in
-    (c .tell .ensures .0 ∙ ap (λ k. result (verdictOutcome k)) (d .ensures .0), (d .ensures .1 ∙ rw e, c .tell .ensures .1 ∙ ap (λ k. wordsOf (verdictOutcome k)) (d .ensures .0)))
+    (c .tell .ensures .0 ∙ ap (λ k. result (verdictOutcome k)) (d .ensures .0), (d .ensures .1 ∙ rw e, c .tell .ensures .1 ∙ ap (λ k. answerWords (verdictOutcome k)) (d .ensures .0)))
 
 enum-told-2 : tie.Need-enum-told-2
 enum-told-2 c = search needs
@@ -40,7 +40,7 @@ returns-2 c =
     let n = length (c .before .before .before .before .before .before .before .args .message .now) in
     let d = c .before .before .before .before .before .digest in
     let e : tooLong n ≡ true = refused-test (tooLong n) hash-limit 0 _ _ (sym (d .ensures .0) ∙ ap checkOf (c .before .before .enum-told2 .given .1)) in
-    (c .tell2 .ensures .0 ∙ ap (λ k. result (verdictOutcome k)) (d .ensures .0), (rw e, c .tell2 .ensures .1 ∙ ap (λ k. wordsOf (verdictOutcome k)) (d .ensures .0)))
+    (c .tell2 .ensures .0 ∙ ap (λ k. result (verdictOutcome k)) (d .ensures .0), (rw e, c .tell2 .ensures .1 ∙ ap (λ k. answerWords (verdictOutcome k)) (d .ensures .0)))
 
 pub dwarnizza-md5-spec : {M : Type 1} → statement M
 dwarnizza-md5-spec =

@@ -7,7 +7,7 @@ use Rattle.refusal.specs.Check.{checkOf}
 use Rattle.refusal.specs.Number.{hash-limit}
 use Rattle.refusal.proofs.Laws.{silent-test, refused-test}
 use Rattle.md5.specs.Message.{tooLong, limited, updated}
-use Rattle.dwarnizza.specs.Answer.{result, wordsOf, verdictOutcome}
+use Rattle.dwarnizza.specs.Answer.{result, answerWords, verdictOutcome}
 use Rattle.dwarnizza.specs.Md5State.{wordsTo}
 use borrow.Author.Needs.{needs}
 use Rattle.dwarnizza.proofs.hash.dwarnizza_md5_update.Statement.{statement}
@@ -36,7 +36,7 @@ returns c =
     let within : tooLong n ≡ false = silent-test (tooLong n) hash-limit 0 (sym v ∙ ap checkOf (c .before .before .before .before .before .enum-told .given .1)) in
     let e = u .1 ∙ ap (λ r. updated r (a .part .now)) (s .ensures) in (
       c .tell .ensures .0 ∙ ap (λ k. result (verdictOutcome k)) v,
-      (rw within (ap (λ r. wordsTo (r .words)) (rw within at e)), (ap (λ r. r .pending) e, (ap (λ r. r .count) e, c .tell .ensures .1 ∙ ap (λ k. wordsOf (verdictOutcome k)) v))),
+      (rw within (ap (λ r. wordsTo (r .words)) (rw within at e)), (ap (λ r. r .pending) e, (ap (λ r. r .count) e, c .tell .ensures .1 ∙ ap (λ k. answerWords (verdictOutcome k)) v))),
     )
 
 enum-told-2 : tie.Need-enum-told-2
@@ -54,7 +54,7 @@ returns-2 c =
     let u = c .before .before .before .before .before .update .ensures in
     let v = u .0 ∙ ap (λ r. limited (r .count + length (a .part .now))) (s .ensures) in
     let e : tooLong n ≡ true = refused-test (tooLong n) hash-limit 0 _ _ (sym v ∙ ap checkOf (c .before .before .enum-told2 .given .1)) in
-    (c .tell2 .ensures .0 ∙ ap (λ k. result (verdictOutcome k)) v, (rw e, (rw e, (rw e, c .tell2 .ensures .1 ∙ ap (λ k. wordsOf (verdictOutcome k)) v))))
+    (c .tell2 .ensures .0 ∙ ap (λ k. result (verdictOutcome k)) v, (rw e, (rw e, (rw e, c .tell2 .ensures .1 ∙ ap (λ k. answerWords (verdictOutcome k)) v))))
 
 pub dwarnizza-md5-update-spec : {M : Type 1} → statement M
 dwarnizza-md5-update-spec =

@@ -1,7 +1,7 @@
 -- `dwarnizza::indexes::dwarnizza_index_bound`: what `lookup::bound` answers, laid out.
 use mathlib.Core.Path.{sym, ap, _∙_}
 use Rattle.lookup.specs.Lookup.{boundOutcome}
-use Rattle.dwarnizza.specs.Answer.{result, wordsOf}
+use Rattle.dwarnizza.specs.Answer.{result, answerWords}
 use borrow.Author.Needs.{needs}
 use Rattle.dwarnizza.proofs.indexes.dwarnizza_index_bound.Statement.{statement}
 use Rattle.dwarnizza.proofs.indexes.dwarnizza_index_bound.Tie as tie
@@ -25,13 +25,13 @@ returns : tie.Need-returns
 unfolding boundOutcome
 returns c =
     let e = sym (ap boundOutcome (c .before .before .before .r .given .1)) ∙ c .before .before .before .before .before .bound .ensures in
-    (c .refused .ensures .0 ∙ ap result e, c .refused .ensures .1 ∙ ap wordsOf e)
+    (c .refused .ensures .0 ∙ ap result e, c .refused .ensures .1 ∙ ap answerWords e)
 
 returns-2 : tie.Need-returns-2
-unfolding boundOutcome result wordsOf
+unfolding boundOutcome result answerWords
 returns-2 c =
     let e = sym (ap boundOutcome (c .before .before .n .given .1)) ∙ c .before .before .before .before .bound .ensures in
-    (ap result e, ap wordsOf e)
+    (ap result e, ap answerWords e)
 
 pub dwarnizza-index-bound-spec : {M : Type 1} → statement M
 dwarnizza-index-bound-spec =

@@ -1,7 +1,7 @@
 -- `dwarnizza::indexes::dwarnizza_index_check`: what `index::check` answers, laid out.
 use mathlib.Core.Path.{sym, ap, _∙_}
 use Rattle.index_open.specs.Open.{layoutValues, outcome}
-use Rattle.dwarnizza.specs.Answer.{result, wordsOf}
+use Rattle.dwarnizza.specs.Answer.{result, answerWords}
 use borrow.Author.Needs.{needs}
 use Rattle.dwarnizza.proofs.indexes.dwarnizza_index_check.Statement.{statement}
 use Rattle.dwarnizza.proofs.indexes.dwarnizza_index_check.Tie as tie
@@ -37,13 +37,13 @@ returns : tie.Need-returns
 unfolding outcome
 returns c =
     let e = sym (ap outcome (c .before .before .before .r .given .1)) ∙ c .before .before .before .before .before .check .ensures in
-    (c .refused .ensures .0 ∙ ap result e, c .refused .ensures .1 ∙ ap wordsOf e)
+    (c .refused .ensures .0 ∙ ap result e, c .refused .ensures .1 ∙ ap answerWords e)
 
 returns-2 : tie.Need-returns-2
-unfolding outcome layoutValues result wordsOf
+unfolding outcome layoutValues result answerWords
 returns-2 c =
     let e = sym (ap outcome (c .before .before .before .before .before .before .before .l .given .1)) ∙ c .before .before .before .before .before .before .before .before .before .check .ensures in
-    (ap result e, ap wordsOf e)
+    (ap result e, ap answerWords e)
 
 pub dwarnizza-index-check-spec : {M : Type 1} → statement M
 dwarnizza-index-check-spec =

@@ -1,7 +1,7 @@
 -- `dwarnizza::indexes::dwarnizza_index_listing`: what `listing::listing` answers, laid out.
 use mathlib.Core.Path.{sym, ap, _∙_}
 use Rattle.listing.specs.Listing.{outcome}
-use Rattle.dwarnizza.specs.Answer.{result, wordsOf}
+use Rattle.dwarnizza.specs.Answer.{result, answerWords}
 use borrow.Author.Needs.{needs}
 use Rattle.dwarnizza.proofs.indexes.dwarnizza_index_listing.Statement.{statement}
 use Rattle.dwarnizza.proofs.indexes.dwarnizza_index_listing.Tie as tie
@@ -25,16 +25,16 @@ returns : tie.Need-returns
 unfolding outcome
 returns c =
     let e = sym (ap outcome (c .before .before .before .r .given .1)) ∙ c .before .before .before .before .before .before .before .listing .ensures .0 in
-    (c .refused .ensures .0 ∙ ap result e, (c .before .before .before .before .before .before .before .listing .ensures .1, c .refused .ensures .1 ∙ ap wordsOf e))
+    (c .refused .ensures .0 ∙ ap result e, (c .before .before .before .before .before .before .before .listing .ensures .1, c .refused .ensures .1 ∙ ap answerWords e))
 
 same-length-2 : tie.Need-same-length-2
 same-length-2 c = search needs
 
 returns-2 : tie.Need-returns-2
-unfolding outcome result wordsOf
+unfolding outcome result answerWords
 returns-2 c =
     let e = sym (ap outcome (c .before .before .length .given .1)) ∙ c .before .before .before .before .before .before .listing .ensures .0 in
-    (ap result e, (c .before .before .before .before .before .before .listing .ensures .1, ap wordsOf e))
+    (ap result e, (c .before .before .before .before .before .before .listing .ensures .1, ap answerWords e))
 
 pub dwarnizza-index-listing-spec : {M : Type 1} → statement M
 dwarnizza-index-listing-spec =

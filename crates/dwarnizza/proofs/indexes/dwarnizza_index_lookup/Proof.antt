@@ -1,7 +1,7 @@
 -- `dwarnizza::indexes::dwarnizza_index_lookup`: what `lookup::lookup` answers, laid out.
 use mathlib.Core.Path.{sym, ap, _∙_}
 use Rattle.lookup.specs.Lookup.{outcome}
-use Rattle.dwarnizza.specs.Answer.{result, wordsOf}
+use Rattle.dwarnizza.specs.Answer.{result, answerWords}
 use borrow.Author.Needs.{needs}
 use Rattle.dwarnizza.proofs.indexes.dwarnizza_index_lookup.Statement.{statement}
 use Rattle.dwarnizza.proofs.indexes.dwarnizza_index_lookup.Tie as tie
@@ -40,19 +40,19 @@ returns : tie.Need-returns
 unfolding outcome
 returns c =
     let e = sym (ap outcome (c .before .before .before .r .given .1)) ∙ c .before .before .before .before .before .lookup .ensures in
-    (c .refused .ensures .0 ∙ ap result e, c .refused .ensures .1 ∙ ap wordsOf e)
+    (c .refused .ensures .0 ∙ ap result e, c .refused .ensures .1 ∙ ap answerWords e)
 
 returns-2 : tie.Need-returns-2
-unfolding outcome result wordsOf
+unfolding outcome result answerWords
 returns-2 c =
     let e = sym (ap outcome (c .before .before .n .given .1)) ∙ c .before .before .before .before .lookup .ensures in
-    (ap result e, ap wordsOf e)
+    (ap result e, ap answerWords e)
 
 returns-3 : tie.Need-returns-3
-unfolding outcome result wordsOf
+unfolding outcome result answerWords
 returns-3 c =
     let e = sym (ap outcome (c .before .before .before .before .before .before .before .before .e .given .1)) ∙ c .before .before .before .before .before .before .before .before .before .before .lookup .ensures in
-    (ap result e, ap wordsOf e)
+    (ap result e, ap answerWords e)
 
 pub dwarnizza-index-lookup-spec : {M : Type 1} → statement M
 dwarnizza-index-lookup-spec =

@@ -8,7 +8,7 @@ use Rattle.refusal.specs.Outcome.{answered}
 use Rattle.refusal.specs.Output.{filled}
 use Rattle.refusal.proofs.Laws.{refused-is, passed-is, after-said, after-quiet}
 use Rattle.key_text.proofs.Laws.{key-laid-over}
-use Rattle.dwarnizza.specs.Answer.{result, wordsOf}
+use Rattle.dwarnizza.specs.Answer.{result, answerWords}
 use borrow.Author.Needs.{needs}
 use Rattle.dwarnizza.proofs.keys.dwarnizza_key_text.Statement.{statement}
 use Rattle.dwarnizza.proofs.keys.dwarnizza_key_text.Tie as tie
@@ -40,10 +40,10 @@ returns c =
     let a = c .before .before .before .before .before .before .before .before .args in
     let k = refused-is _ _ (c .before .before .before .before .before .before .from-text .ensures .0) (c .before .before .before .verdict .given .1) in
     let o = sym (after-said (answered (a .length ∷ [])) k) in
-    (c .refused .ensures .0 ∙ ap result o, (rw k, c .refused .ensures .1 ∙ ap wordsOf o))
+    (c .refused .ensures .0 ∙ ap result o, (rw k, c .refused .ensures .1 ∙ ap answerWords o))
 
 returns-2 : tie.Need-returns-2
-unfolding result wordsOf
+unfolding result answerWords
 returns-2 c =
     let a = c .before .before .before .before .before .before .before .before .before .before .args in
     let f = c .before .before .before .before .before .before .before .before .from-text in
@@ -51,7 +51,7 @@ returns-2 c =
     let o = sym (after-quiet (answered (a .length ∷ [])) k) in
     let long : length (a .key .now) ≡ 16 = search needs in
     let part = c .before .before .before .part .ensures ∙ ap (λ (b : List ℕ). partAt b 0 (a .length)) (f .ensures .1) in
-    (ap result o, (c .before .copy .ensures ∙ ap (overlay (a .key .now) 0) part ∙ key-laid-over _ _ k (a .key .now) long, ap wordsOf o))
+    (ap result o, (c .before .copy .ensures ∙ ap (overlay (a .key .now) 0) part ∙ key-laid-over _ _ k (a .key .now) long, ap answerWords o))
 
 pub dwarnizza-key-text-spec : {M : Type 1} → statement M
 dwarnizza-key-text-spec =
