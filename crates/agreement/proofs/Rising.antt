@@ -8,10 +8,9 @@ use native.Mathlib.Omega.{arith}
 use borrow.Author.Tests.{not-false}
 use Rattle.parts.specs.Part.{partAt}
 use Rattle.parts.proofs.Laws.{sameBytes-eq}
-use Rattle.key.specs.declared.Order.{Order}
-use Rattle.key.specs.declared.Order.the-variants.{Below, Equal, Above}
+use Rattle.key.specs.declared.Order.the-variants.{Below}
 use Rattle.key.specs.Order.{compared}
-use Rattle.key.proofs.Laws.{isBelow-true, below-trans, below-then-equal}
+use Rattle.key.proofs.Laws.{isBelow-true, below-trans, below-then-not-above}
 use Rattle.refusal.specs.Check.{silent, first, firstFrom}
 use Rattle.refusal.specs.Number.{index-order, last-key}
 use Rattle.refusal.proofs.Laws.{first-left, first-right, silent-test, from-each}
@@ -98,19 +97,11 @@ module _ (s : List ℕ) (l : Layout) (passed : pagesCheck s l ≡ silent) where
 
     -- ---- against a sought key
 
-    before-sought : (a b c : List ℕ) → compared a b ≡ Below → (compared b c ≡ Above → ⊥) → compared a c ≡ Below
-    before-sought a b c below h = go (compared b c) refl
-      where
-        go : (o : Order) → compared b c ≡ o → compared a c ≡ Below
-        go Below e = below-trans a b c below e
-        go Equal e = below-then-equal a b c below e
-        go Above e = absurd (h e)
-
     pub sorted : (sought : List ℕ) → Sorted (storedIn s l sought)
     unfolding storedIn
     sorted sought = record {
       some = some;
       lasts = λ p h. ap (λ k. compared k sought) (last-is p h);
-      inside = λ p i j h m n not. before-sought _ _ sought (inside p i j h m n) not;
-      across = λ p q i j m h hi hj not. before-sought _ _ sought (across p q i j m h hi hj) not;
+      inside = λ p i j h m n not. below-then-not-above _ _ sought (inside p i j h m n) not;
+      across = λ p q i j m h hi hj not. below-then-not-above _ _ sought (across p q i j m h hi hj) not;
     }

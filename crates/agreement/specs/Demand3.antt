@@ -1,6 +1,6 @@
--- Demand 3: on any index that passes the full check and any key of its length, the halving lookup refuses nothing, finds exactly
--- what the plain reading from first entry to last finds, with the same page, slot, size and location, and carries the number of
--- keys compared, which equals the written rule's and is at most digits(pages) + digits(entries of a full page) + 1.
+-- Demand 3: on any index that passes the full check and any key of its length, the lookup refuses nothing, finds exactly what
+-- the plain reading finds, with the same page, slot, size and location, and tells the number of keys compared, which is that of
+-- the halving rule and at most the bound: rules L11 and P3.
 use mathlib.Core.Path.{_≡_}
 use mathlib.Core.List.{List, [], _∷_}
 use Prim.Native.Nat.{ℕ, _≤_}
@@ -17,16 +17,16 @@ use Rattle.lookup.specs.declared.Bounded.{Bounded}
 use Rattle.lookup.specs.Lookup.{storedIn, ended, lookupOf, mostOf, boundOf, outcome, boundOutcome}
 use Rattle.agreement.specs.Plain.{plainReading, withCount}
 
--- The number of keys compared by the written rule: the halving rule on the last keys, then on a page's entries.
+-- The number of keys compared by the halving rule, on the last keys, then on a page's entries (rule L5).
 abbrev pub comparisons : List ℕ → List ℕ → ℕ
 comparisons s sought = ended (storedIn s (layoutOf s) sought) .count
 
 -- What an outcome of a lookup in s must be.
 pub record Agrees (s sought : List ℕ) (looked : Outcome) : Type 0 where
   -- Nothing is refused; it is found exactly where the plain reading finds, with the same page, slot, size and location, and
-  -- absent exactly where the plain reading says so; the count is the written rule's.
+  -- absent exactly where the plain reading says so; the count is that of the halving rule.
   pub answer : looked ≡ withCount (plainReading s sought) (comparisons s sought)
-  -- At most digits(pages) + digits(entries of a full page) + 1.
+  -- At most the binary digits of P and of E, and 1 (rule L10).
   pub bound : comparisons s sought ≤ mostOf (layoutOf s)
 
 -- Calls of the functions on an index and a key: what each answered, as its contract says, where the full check passed and the
@@ -44,7 +44,7 @@ pub record Calls (s sought : List ℕ) : Type 0 where
   pub passed : checked ≡ Passed layout
   pub key-length : length sought ≡ layout .«key_length»
 
--- The demand of these calls: the lookup's answer agrees, and the bound's answer is that bound.
+-- The demand of these calls: the lookup's answer agrees, and the bound's answer is that bound (rule L11).
 pub record Demand3 (s sought : List ℕ) (c : Calls s sought) : Type 0 where
   pub agrees : Agrees s sought (outcome (c .looked))
   pub bounded : boundOutcome (c .most) ≡ answered (mostOf (layoutOf s) ∷ [])

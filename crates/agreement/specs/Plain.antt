@@ -1,4 +1,4 @@
--- The plain reading of an index: document 01, "Archive index".
+-- The plain reading of an index: rule L8.
 use mathlib.Core.Bool.{cond}
 use mathlib.Core.List.{List, [], _∷_}
 use Prim.Native.Nat.{ℕ, zero, suc}
@@ -25,7 +25,7 @@ unfoldable pub pagesFrom : List ℕ → Layout → List ℕ → (p n : ℕ) → 
 pagesFrom s l sought p zero = absent
 pagesFrom s l sought p (suc n) = entriesFrom s l sought p 0 (onPage l p) (pagesFrom s l sought (suc p) n)
 
--- The plain reading for a sought key: the pages from 0, in each the entries from slot 0.
+-- The plain reading for a sought key: the pages from 0, in each the entries from slot 0 (rule L8).
 unfoldable pub plainReading : List ℕ → List ℕ → Plain
 plainReading s sought = pagesFrom s (layoutOf s) sought 0 (layoutOf s .pages)
 

@@ -14,6 +14,7 @@ use Rattle.parts.proofs.Laws.{partAt-length, partAt-inside}
 use Rattle.field.proofs.Laws.{bigAt-below}
 use Rattle.md5_end.proofs.EndLaws.{little-length}
 use Rattle.md5.specs.Message.{digestOf, md5, digestOr0, limited}
+use Rattle.md5.proofs.MessageLaws.{short-hashed}
 use Rattle.refusal.specs.Check.{Check, silent, refused, refusedIf, first, firstFrom}
 use Rattle.refusal.specs.Output.{filled}
 use Rattle.refusal.specs.Number.{chunk-sizes, chunk-hash, decoded-size, hash-limit}
@@ -109,7 +110,7 @@ unfolding encodedSize
 chunk-hashed s h i at size part bytes fits table p q e d =
     let small : encodedSize s h i < 256 ^ 4 = rw table (bigAt-below s fits (rowAt i) 4) in
     let short : length part ≤ 2 ^ 48 = omega (arith, ap length e, partAt-length s at size, small) in
-    d ∙ ap (λ b. cond b (replicate 16 0) (md5 part)) (le-ltb (2 ^ 48) (length part) short) ∙ ap md5 (e ∙ ap₂ (partAt s) p q)
+    short-hashed part bytes short d ∙ ap md5 (e ∙ ap₂ (partAt s) p q)
 
 -- one chunk without a table has a mode only
 module _ (s : List ℕ) (h : Header) (none : tabled h ≡ false) where

@@ -1,4 +1,4 @@
--- What an envelope that opens is: its key, its chunks and its content.
+-- What an envelope that opens is, by its key, its chunks and its content: rule B17.
 use mathlib.Core.Path.{_≡_}
 use mathlib.Core.Bool.{true, false}
 use mathlib.Core.List.{List, [], _∷_}

@@ -11,12 +11,9 @@ use lib.Pow.{pow-mono}
 use mir.Syntax.{w64}
 use mir.Val.{Fits}
 use borrow.Author.Tests.{ne-eqb, ltb-true, ltb-false}
+use Rattle.parts.proofs.Laws.{by-test}
 use Rattle.halving.specs.declared.Halved.{Halved}
 use Rattle.halving.specs.Halving.{halvedOnce, halving, halvedFrom, halve, leastOr, digitsFrom, binaryDigits}
-
-by-test : {P : Type 0} (b : Bool) → (b ≡ true → P) → (b ≡ false → P) → P
-by-test true t f = t refl
-by-test false t f = f refl
 
 pub true-or-false : {b : Bool} → b ≡ true → b ≡ false → ⊥
 true-or-false t f = let z : _≡_ {A = ℕ} 0 1 = cc in omega arith

@@ -1,4 +1,4 @@
--- The halving rule and the binary digits of a number: document 01, "Archive index".
+-- The halving rule and the binary digits of a number: rules L1 and L9. Rule L2 is a law of the first (proofs/Laws.antt).
 use mathlib.Core.Path.{_≡_}
 use mathlib.Core.Bool.{Bool, true, false}
 use mathlib.Core.List.{List}
@@ -10,7 +10,7 @@ use Rattle.key.specs.Order.{compared, isBelow}
 use Rattle.halving.specs.declared.Halved.{Halved}
 
 -- The halving rule over the w keys from start on, after some comparisons. None left: stop. Else the key at
--- start + floor(w / 2) is compared: below the sought one, go on after it, else before it.
+-- start + floor(w / 2) is compared: below the sought one, go on after it, else before it (rule L1).
 unfoldable pub halvedOnce : (none below : Bool) → (ℕ → ℕ → ℕ → Halved) → ℕ → ℕ → ℕ → Halved
 halvedOnce true below go start w count = record { place = start; count = count }
 halvedOnce false true go start w count = go (start + w / 2 + 1) (w - w / 2 - 1) (count + 1)
@@ -31,8 +31,7 @@ halvedFrom below start w count = halving w below start w count
 unfoldable pub halve : (ℕ → Bool) → ℕ → Halved
 halve below w = halvedFrom below 0 w 0
 
--- The halving rule in document 01's words, without the turns: `go` follows it over every range. `halvedFrom` does
--- (proofs/Rule.antt).
+-- Rule L1 as three equations, without the turns: `go` follows it over every range. `halvedFrom` does (proofs/Rule.antt).
 pub record HalvingRule (below : ℕ → Bool) (go : (start w count : ℕ) → Halved) : Type 0 where
   -- none left, stop;
   pub none-left : (start count : ℕ) → go start 0 count ≡ record { place = start; count = count }
@@ -45,7 +44,7 @@ pub record HalvingRule (below : ℕ → Bool) (go : (start w count : ℕ) → Ha
 unfoldable pub keyBelow : List ℕ → ℕ → List ℕ → ℕ → Bool
 keyBelow keys stride key i = isBelow (compared (partAt keys (i * stride) (length key)) key)
 
--- The binary digits of a number: the least d with the number below 2 ^ d. 0 has none.
+-- The binary digits of a number: the least d with the number below 2 ^ d. 0 has none (rule L9).
 unfoldable pub leastOr : Bool → (ℕ → ℕ) → ℕ → ℕ
 leastOr true go d = d
 leastOr false go d = go (d + 1)

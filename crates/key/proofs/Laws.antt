@@ -1,5 +1,5 @@
 -- Laws of the order of keys, over all lists and all widths.
-use mathlib.Core.Path.{_≡_, refl, ap, ap₂, _∙_}
+use mathlib.Core.Path.{_≡_, refl, sym, ap, ap₂, _∙_}
 use mathlib.Core.Bool.{true}
 use mathlib.Core.List.{List, [], _∷_, _++_}
 use Prim.Native.Nat.{ℕ, zero, suc, _+_, _*_, _^_, _≤_, _<_}
@@ -8,15 +8,17 @@ use native.Mathlib.Decide.{decLt}
 use native.Mathlib.Numerals.{add-one}
 use native.Mathlib.Omega.{arith}
 use lib.Arith.{digits-lt}
+use lib.Dec.{lit<}
 use lib.ListN.{length, take, drop, take-append-drop, drop-of-length-le}
 use lib.Seq.{drop-cons, getD-drop}
 use borrow.Author.Tests.{lt-ltb, le-ltb}
-use Rattle.parts.specs.Part.{byteAt}
+use Rattle.parts.specs.Part.{byteAt, partAt}
+use Rattle.parts.proofs.Laws.{partAt-byte}
 use Rattle.field.specs.Number.{bigAt}
 use Rattle.field.proofs.Laws.{bigAt-agree, bigAt-below}
 use Rattle.key.specs.declared.Order.{Order}
 use Rattle.key.specs.declared.Order.the-variants.{Below, Equal, Above}
-use Rattle.key.specs.Order.{decided, compared, isBelow, isEqual}
+use Rattle.key.specs.Order.{decided, compared, isBelow, isEqual, isAbove}
 
 -- ---- the three outcomes
 
@@ -112,6 +114,14 @@ compared-exchanged (x ∷ a) (y ∷ b) =
     (λ e. cc (first-same a b x, first-same b a x, compared-exchanged a b))
     (λ l. cc (first-above a b l, first-below b a l))
 
+pub above-is-below : (a b : List ℕ) → isAbove (compared a b) ≡ isBelow (compared b a)
+above-is-below a b = go (compared a b) ∙ ap isBelow (sym (compared-exchanged a b))
+  where
+    go : (o : Order) → isAbove o ≡ isBelow (exchanged o)
+    go Below = refl
+    go Equal = refl
+    go Above = refl
+
 pub above-of-below : (a b : List ℕ) → compared a b ≡ Below → compared b a ≡ Above
 above-of-below a b h = cc (compared-exchanged a b)
 
@@ -144,6 +154,14 @@ below-then-equal a b c h k = cc (eq-of-equal b c k)
 
 pub equal-then-below : (a b c : List ℕ) → compared a b ≡ Equal → compared b c ≡ Below → compared a c ≡ Below
 equal-then-below a b c h k = cc (eq-of-equal a b h)
+
+pub below-then-not-above : (a b c : List ℕ) → compared a b ≡ Below → (compared b c ≡ Above → ⊥) → compared a c ≡ Below
+below-then-not-above a b c below h = go (compared b c) refl
+  where
+    go : (o : Order) → compared b c ≡ o → compared a c ≡ Below
+    go Below e = below-trans a b c below e
+    go Equal e = below-then-equal a b c below e
+    go Above e = absurd (h e)
 
 -- ---- a common beginning
 
@@ -200,6 +218,21 @@ module _ {a b : List ℕ} {at : ℕ} (p : Passed a b at) where
 -- Every element is a byte.
 abbrev pub Bytes : List ℕ → Type 0
 Bytes s = (i : ℕ) → byteAt s i < 256
+
+-- A part of bytes has bytes alone.
+take-bytes : (n : ℕ) (s : List ℕ) → Bytes s → Bytes (take n s)
+take-bytes zero s h i = lit< tt
+take-bytes (suc n) [] h i = lit< tt
+take-bytes (suc n) (x ∷ s) h zero = h 0
+take-bytes (suc n) (x ∷ s) h (suc i) = take-bytes n s (λ j. h (suc j)) i
+
+pub part-bytes : (s : List ℕ) (at count : ℕ) → Bytes s → Bytes (partAt s at count)
+part-bytes s at count h = take-bytes count (drop at s) (λ i. rw (getD-drop at s i 0) (h (at + i)))
+
+-- The number in front of a part is the number at its place.
+pub part-number : (s : List ℕ) (at count w : ℕ) → w ≤ count → bigAt (partAt s at count) 0 w ≡ bigAt s at w
+part-number s at count w h =
+    bigAt-agree (partAt s at count) s 0 at w (λ i l. rw (zero-add i) (partAt-byte s at count i (omega arith)))
 
 -- The number at an offset is the first one of what is left from there on.
 pub bigAt-drop : (s : List ℕ) (at w : ℕ) → bigAt (drop at s) 0 w ≡ bigAt s at w

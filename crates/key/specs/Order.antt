@@ -1,4 +1,4 @@
--- The order of keys: unsigned bytes from the left.
+-- The order of keys, as unsigned bytes from the left: rule G10.
 use mathlib.Core.Bool.{Bool, true, false}
 use mathlib.Core.List.{List, [], _∷_}
 use Prim.Native.Nat.{ℕ}
@@ -31,3 +31,9 @@ abbrev pub isEqual : Order → Bool
 isEqual Below = false
 isEqual Equal = true
 isEqual Above = false
+
+-- Whether an answer is above.
+abbrev pub isAbove : Order → Bool
+isAbove Below = false
+isAbove Equal = false
+isAbove Above = true

@@ -104,3 +104,7 @@ pub digest-told : (f : List ℕ → List ℕ) (m bytes : List ℕ) (w : Words) �
     → bytes ≡ f (digestOf w) → bytes ≡ f (digestOr0 m)
 unfolding md5
 digest-told f m bytes w e p q = q ∙ ap (λ v. f (digestOf v)) p ∙ ap (λ b. f (cond b (replicate 16 0) (md5 m))) (sym e)
+
+-- a message within the limit has its digest
+pub short-hashed : (m bytes : List ℕ) → length m ≤ 2 ^ 48 → bytes ≡ digestOr0 m → bytes ≡ md5 m
+short-hashed m bytes l d = d ∙ ap (λ b. cond b (replicate 16 0) (md5 m)) (le-ltb (2 ^ 48) (length m) l)

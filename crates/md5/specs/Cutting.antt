@@ -1,5 +1,5 @@
--- "Hashing takes its input in parts, and the running state is handed back after each part; any cutting gives the digest of the
--- whole. Input is at most 2^48 bytes in all; a part that would pass that is refusal 50 and the state stays as it was."
+-- However a message is cut into parts, the digest at the end is that of the whole, and a part that would pass the limit is
+-- refused: rules H13 and H14.
 use mathlib.Core.Path.{_≡_}
 use mathlib.Core.List.{List, [], _∷_, _++_}
 use Prim.Native.Nat.{ℕ, _+_, _^_, _≤_, _<_}
@@ -31,12 +31,12 @@ joined [] = []
 joined (part ∷ parts) = part ++ joined parts
 
 -- What holds at the end of a run: nothing was refused, the state's digest (what `Md5::finish` ensures) is that of the parts
--- joined, and a part that would pass the limit is refusal 50 and leaves the state.
+-- joined, and a part that would pass the limit is 50 and leaves the state (rule H14).
 pub record Cut (parts : List (List ℕ)) (rs : List Updated) (e : Md5) : Type 0 where
   pub passed : AllPassed rs
   pub digest : finished e ≡ md5 (joined parts)
   pub limit : (part : List ℕ) (r : Updated) → 2 ^ 48 < length (joined parts) + length part → Updates e part r → (checkOf (r .verdict) ≡ refused hash-limit 0) × (r .state ≡ e)
 
--- Any cutting of at most 2^48 bytes, from the state that `Md5::new` answers.
+-- Any cutting of at most 2^48 bytes, from the state that `Md5::new` answers (rule H13).
 abbrev pub AnyCutting : Type 0
 AnyCutting = (parts : List (List ℕ)) (rs : List Updated) (e : Md5) → length (joined parts) ≤ 2 ^ 48 → Run fresh parts rs e → Cut parts rs e

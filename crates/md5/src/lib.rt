@@ -41,7 +41,7 @@ pub struct Hashed {
     pub bytes: [u8; 16],
 }
 
-// "First 8": the first eight digest bytes.
+// The first eight bytes of a digest.
 pub struct FirstEight {
     pub verdict: Verdict,
     pub bytes: [u8; 8],

@@ -53,6 +53,12 @@ partAt-clipped s at count start n p q =
     let dropped : drop start s ≡ drop at s = rw p (drop-clipped at s) in
     rw (q, ← length-drop start s, dropped) (take-clipped count (drop at s))
 
+-- ---- tests
+
+pub by-test : {P : Type 0} (b : Bool) → (b ≡ true → P) → (b ≡ false → P) → P
+by-test true f g = f refl
+by-test false f g = g refl
+
 -- ---- the same bytes
 
 pub sameBytes-refl : (a : List ℕ) → sameBytes a a ≡ true
@@ -63,7 +69,7 @@ sameBytes-refl (x ∷ a) = rw (eq-eqb x x refl) (sameBytes-refl a)
 pub sameBytes-of-eq : (a b : List ℕ) → a ≡ b → sameBytes a b ≡ true
 sameBytes-of-eq a b e = subst (λ (l : List ℕ). sameBytes a l ≡ true) e (sameBytes-refl a)
 
-both : (p q : Bool) → (p && q) ≡ true → (p ≡ true) × (q ≡ true)
+pub both : (p q : Bool) → (p && q) ≡ true → (p ≡ true) × (q ≡ true)
 both true q e = (refl, e)
 both false q e = absurd (false≢true e)
 

@@ -1,15 +1,15 @@
--- Bytes and parts of a list of bytes, and what is asked of them.
+-- Bytes and parts of a list of bytes, and what is asked of them: rules G8 and G17.
 use mathlib.Core.Bool.{Bool, true, false, _&&_}
 use mathlib.Core.List.{List, [], _∷_, _++_}
 use Prim.Native.Nat.{ℕ, zero, suc}
 use lib.Dec.{eqb}
 use lib.ListN.{getD, take, drop}
 
--- The byte at an offset; 0 past the end.
+-- The byte at an offset; 0 past the end (rule G8).
 abbrev pub byteAt : List ℕ → ℕ → ℕ
 byteAt s at = getD s at 0
 
--- The bytes from an offset on, as many as asked for where there are as many.
+-- The bytes from an offset on, as many as asked for where there are as many (rule G8).
 abbrev pub partAt : List ℕ → ℕ → ℕ → List ℕ
 partAt s at count = take count (drop at s)
 
@@ -25,7 +25,7 @@ unfoldable pub allZero : List ℕ → Bool
 allZero [] = true
 allZero (x ∷ s) = eqb x 0 && allZero s
 
--- A list with the bytes of another in place of its own from an offset on. What has no room is left out.
+-- A list with the bytes of another in place of its own from an offset on. What has no room is left out (rule G17).
 unfoldable pub overlay : List ℕ → ℕ → List ℕ → List ℕ
 overlay [] at from = []
 overlay (x ∷ to) (suc at) from = x ∷ overlay to at from

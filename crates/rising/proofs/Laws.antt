@@ -3,19 +3,15 @@ use mathlib.Core.Path.{_≡_, refl, sym, ap, ap₂, _∙_}
 use mathlib.Core.Bool.{Bool, true, false, not, cond}
 use mathlib.Core.List.{List, [], _∷_}
 use Prim.Native.Nat.{ℕ, zero, suc, _+_, _-_, _*_, _≤_, _<_}
-use native.Mathlib.Nat.{le-refl, zero-add, add-zero, add-assoc, suc-mul, one-mul, mul-le-mul, mul-le-mul-right, not-suc-le-zero}
+use native.Mathlib.Nat.{le-refl, add-zero, add-assoc, suc-mul, one-mul, mul-le-mul, mul-le-mul-right, not-suc-le-zero}
 use native.Mathlib.Omega.{arith}
-use lib.Dec.{ltb, lit<}
-use lib.ListN.{take, drop}
-use lib.Seq.{getD-drop}
+use lib.Dec.{ltb}
 use borrow.Author.Tests.{lt-ltb, le-ltb, not-true}
 use Rattle.parts.specs.Part.{byteAt, partAt}
 use Rattle.field.specs.Number.{bigAt}
-use Rattle.parts.proofs.Laws.{partAt-byte}
-use Rattle.field.proofs.Laws.{bigAt-agree}
 use Rattle.key.specs.Order.{compared, isBelow}
 use Rattle.key.specs.declared.Order.the-variants.{Below}
-use Rattle.key.proofs.Laws.{below-of-bigAt}
+use Rattle.key.proofs.Laws.{below-of-bigAt, part-bytes, part-number}
 use Rattle.refusal.specs.Check.{Check, silent, refused, refusedIf, first, firstFrom}
 use Rattle.refusal.proofs.Laws.{first-said, first-quiet, said, quiet}
 use Rattle.rising.specs.Fall.{risesAt, fallFrom}
@@ -103,22 +99,10 @@ module _ (keys : List ℕ) (stride width : ℕ) where
 
 -- ---- eight bytes of two keys decide
 
--- a part of bytes has bytes alone
-take-bytes : (n : ℕ) (s : List ℕ) → ((i : ℕ) → byteAt s i < 256) → (i : ℕ) → byteAt (take n s) i < 256
-take-bytes zero s h i = lit< tt
-take-bytes (suc n) [] h i = lit< tt
-take-bytes (suc n) (x ∷ s) h zero = h 0
-take-bytes (suc n) (x ∷ s) h (suc i) = take-bytes n s (λ j. h (suc j)) i
-
-part-bytes : (s : List ℕ) (at count : ℕ) → ((i : ℕ) → byteAt s i < 256) → (i : ℕ) → byteAt (partAt s at count) i < 256
-part-bytes s at count h = take-bytes count (drop at s) (λ i. rw (getD-drop at s i 0) (h (at + i)))
-
 pub eight-below : (s : List ℕ) (a b width : ℕ) → 8 ≤ width → ((i : ℕ) → byteAt s i < 256) → bigAt s a 8 < bigAt s b 8
     → compared (partAt s a width) (partAt s b width) ≡ Below
 eight-below s a b width h bytes e =
-    let first : (at : ℕ) → bigAt (partAt s at width) 0 8 ≡ bigAt s at 8 =
-    λ at. bigAt-agree (partAt s at width) s 0 at 8 (λ i k. rw (zero-add i) (partAt-byte s at width i (omega arith))) in
-    below-of-bigAt 8 (partAt s a width) (partAt s b width) (part-bytes s b width bytes) (rw (first a, first b) e)
+    below-of-bigAt 8 (partAt s a width) (partAt s b width) (part-bytes s b width bytes) (rw (part-number s a width 8 h, part-number s b width 8 h) e)
 
 pub eight-rises : (keys : List ℕ) (stride width i : ℕ) → 8 ≤ width → ((j : ℕ) → byteAt keys j < 256)
     → bigAt keys ((i - 1) * stride) 8 < bigAt keys (i * stride) 8 → risesAt keys stride width i ≡ true

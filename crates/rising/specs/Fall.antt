@@ -1,4 +1,4 @@
--- Keys rise strictly, as unsigned bytes from the left.
+-- Whether keys rise strictly: rule I11.
 use mathlib.Core.Bool.{Bool, cond}
 use mathlib.Core.List.{List}
 use Prim.Native.Nat.{ℕ, zero, suc, _-_, _*_}

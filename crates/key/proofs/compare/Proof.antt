@@ -2,8 +2,8 @@
 use mathlib.Core.Path.{sym}
 use Prim.Native.Nat.{_-_}
 use native.Mathlib.Omega.{arith}
-use borrow.Author.Needs.{needs}
 use lib.ListN.{length}
+use borrow.Author.Needs.{needs}
 use Rattle.key.proofs.Laws.{Passed, passed-none, passed-more, below-at, above-at, equal-at-end, below-at-end, above-at-end}
 use Rattle.key.proofs.compare.Statement.{statement}
 use Rattle.key.proofs.compare.Tie as tie

@@ -1,7 +1,7 @@
 -- `key::rises` meets its contract: each outcome of the comparison.
 use mathlib.Core.Path.{sym, ap, _∙_}
-use Rattle.key.specs.Order.{isBelow}
 use borrow.Author.Needs.{needs}
+use Rattle.key.specs.Order.{isBelow}
 use Rattle.key.proofs.rises.Statement.{statement}
 use Rattle.key.proofs.rises.Tie as tie
 
