@@ -1,0 +1,136 @@
+-- Lookups in an encoding file that passes the full check agree with the plain reading, as specs/Agreement.antt states it.
+use mathlib.Core.Path.{_≡_, refl, sym, ap, _∙_}
+use mathlib.Core.Bool.{Bool, true, false}
+use mathlib.Core.List.{List}
+use Prim.Native.Nat.{ℕ, _+_, _≤_, _<_}
+use native.Mathlib.Omega.{arith}
+use borrow.Author.Tests.{leb-true, ltb-true, le-leb, lt-ltb, eqb-false}
+use lib.Dec.{ltb, leb}
+use lib.ListN.{length}
+use Rattle.parts.specs.Part.{byteAt}
+use Rattle.parts.proofs.Laws.{partAt-inside}
+use Rattle.refusal.specs.Check.{silent}
+use Rattle.refusal.proofs.Laws.{first-left, first-right, passed-is, after-quiet}
+use Rattle.spec_table.specs.Specs.{countOf}
+use Rattle.spec_table.proofs.Table.{spec-table}
+use Rattle.encoding_header.specs.declared.Kind.{Kind}
+use Rattle.encoding_header.specs.declared.Kind.the-variants.{Content, Encoding}
+use Rattle.encoding_header.specs.declared.Header.{Header}
+use Rattle.encoding_header.specs.Header.{headerOf, tableOf, pageEnd, specTable, opening}
+use Rattle.encoding_header.proofs.Laws.{whole, page-end}
+use Rattle.encoding_page.specs.Entries.{entrySize, ended, specNumber, specKnown}
+use Rattle.encoding_page.proofs.Laws.{entry-left, entry-inside, content-ended}
+use Rattle.encoding.specs.Check.{entriesOf, specsOf, pagesCheck, fullCheck}
+use Rattle.encoding_lookup.specs.Lookup.{lookupCheck, runAt, runLength, contentTold, contentLookup, encodingKeys, encodingTold, encodingLookup}
+use Rattle.encoding_lookup.proofs.Laws.{key-right, run-told, run-absent}
+use Rattle.encoding_agreement.specs.Plain.{found, allEntries, plainReading, plainTold, contentValues, plainContent, encodingValues, plainEncoding}
+use Rattle.encoding_agreement.specs.Agreement.{Run, ContentAgrees, EncodingAgrees, Calls, Agrees}
+use Rattle.encoding_agreement.proofs.Entries.{all-from, all-found, page-all}
+use Rattle.encoding_agreement.proofs.Checked.{specs-known}
+use Rattle.encoding_agreement.proofs.Search.{search-told}
+use Rattle.encoding_agreement.proofs.Specs.{spec-quiet, stands, spec-agrees}
+
+module _ (s : List ℕ) (kind : Kind) (key : List ℕ) (begun : opening s ≡ silent) where
+  unrefused : length key ≡ tableOf (headerOf s) kind .«key_size» → lookupCheck s kind key ≡ silent
+  unrefused size = key-right s kind key (headerOf s) (tableOf (headerOf s) kind) begun refl refl size
+
+  -- what holds of every entry before the end of a page holds of the one that the plain reading finds
+  found-holds : (test : ℕ → Bool)
+      → ((i : ℕ) → i < tableOf (headerOf s) kind .pages → (at : ℕ) → ended s (headerOf s) kind (pageEnd (headerOf s) kind i) at ≡ false → test at ≡ true)
+      → (at : ℕ) → plainReading s kind key ≡ found at → test at ≡ true
+  unfolding plainReading allEntries entriesOf
+  found-holds test holds at f =
+      let h : Header = headerOf s in
+      all-found test _ key (allEntries s h kind)
+      (all-from test _ 0 (tableOf h kind .pages) (λ i l. page-all test s h kind (pageEnd h kind i) (holds i (omega arith)) _))
+      at f
+
+  -- that entry ends inside the file
+  found-inside : (at : ℕ) → plainReading s kind key ≡ found at → at + entrySize s (headerOf s) kind at ≤ length s
+  unfolding pageEnd
+  found-inside at f =
+      let h : Header = headerOf s in
+      leb-true _ _
+      (found-holds (λ x. leb (x + entrySize s h kind x) (length s))
+      (λ i l x t. le-leb (x + entrySize s h kind x) (length s) (omega (arith, entry-inside s h kind _ x t, page-end h kind i l, whole s begun .inside)))
+      at f)
+
+-- a content entry counts one key or more
+found-some : (s key : List ℕ) (at : ℕ) → opening s ≡ silent → plainReading s Content key ≡ found at → 0 < byteAt s at
+found-some s key at begun f =
+    let h : Header = headerOf s in
+    ltb-true _ _
+    (found-holds s Content key begun (λ x. ltb 0 (byteAt s x))
+    (λ i l x t.
+    let none : byteAt s x ≡ 0 → ⊥ = eqb-false _ _ (content-ended s h Content _ x (byteAt s x) refl (entry-left s h Content _ x t) refl ∙ t) in
+    lt-ltb 0 (byteAt s x) (omega arith))
+    at f)
+
+module _ (s : List ℕ) (passed : fullCheck s ≡ silent) where
+  begun : opening s ≡ silent
+  unfolding fullCheck
+  begun = first-left _ _ passed
+
+  content-silent : pagesCheck s (headerOf s) Content ≡ silent
+  unfolding fullCheck
+  content-silent = first-left _ _ (first-right (opening s) _ passed)
+
+  encoding-silent : pagesCheck s (headerOf s) Encoding ≡ silent
+  unfolding fullCheck
+  encoding-silent = first-right (pagesCheck s (headerOf s) Content) _ (first-right (opening s) _ passed)
+
+  module _ (key : List ℕ) (size : length key ≡ headerOf s .content .«key_size») where
+    content-same : contentLookup s key ≡ plainContent s key
+    unfolding contentLookup plainContent plainReading contentValues tableOf
+    content-same =
+        after-quiet _ (unrefused s Content key begun size)
+        ∙ search-told s (headerOf s) Content (contentTold s (headerOf s)) (contentValues s (headerOf s)) content-silent key (λ at f. refl)
+
+    run : (at : ℕ) → plainReading s Content key ≡ found at → Run s (headerOf s) at (encodingKeys s key)
+    unfolding plainContent plainTold contentValues entrySize
+    run at f =
+        let h : Header = headerOf s in
+        let part = sym (run-told s key _ _ _ _ (sym (content-same ∙ ap (plainTold (contentValues s h)) f))) in
+        let inside = found-inside s Content key begun at f in
+        let count : length (encodingKeys s key) ≡ runLength s h at = ap length part ∙ partAt-inside s (runAt h at) (runLength s h at) (omega arith) in
+        record { part = part; some = found-some s key at begun f; count = count; ends = omega arith; inside = inside }
+
+    pub content-agrees : ContentAgrees s key (contentLookup s key) (encodingKeys s key)
+    unfolding plainContent plainTold
+    content-agrees = record {
+      same = content-same;
+      run = run;
+      no-run = λ f. sym (run-absent s key _ (sym (content-same ∙ ap (plainTold (contentValues s (headerOf s))) f)));
+    }
+
+  module _ (key : List ℕ) (size : length key ≡ headerOf s .encoding .«key_size») where
+    number-known : (at : ℕ) → plainReading s Encoding key ≡ found at → specNumber s (headerOf s) at < countOf (specTable s (headerOf s))
+    unfolding plainReading allEntries specKnown specsOf
+    number-known at f =
+        let h : Header = headerOf s in
+        ltb-true _ _
+        (all-found (specKnown s h Encoding (specsOf s h)) _ key (allEntries s h Encoding)
+        (all-from _ _ 0 (tableOf h Encoding .pages) (λ i l. specs-known s h Encoding encoding-silent i (omega arith)))
+        at f)
+
+    pub encoding-agrees : EncodingAgrees s key (encodingLookup s key)
+    unfolding encodingLookup plainEncoding plainReading encodingValues encodingTold tableOf
+    encoding-agrees =
+        let h : Header = headerOf s in
+        let counted = spec-table (specTable s h) .counted in
+        record {
+          same = after-quiet _ (unrefused s Encoding key begun size)
+              ∙ search-told s h Encoding (encodingTold s h) (encodingValues s h) encoding-silent key
+              (λ at f. after-quiet _ (spec-quiet s h _ (number-known at f)));
+          known = λ at f. omega (arith, number-known at f);
+          stands = λ at f. stands s _ begun (number-known at f);
+        }
+
+pub agrees : (s content-key encoding-key : List ℕ) (number : ℕ) (c : Calls s content-key encoding-key number) → Agrees s content-key encoding-key number c
+agrees s content-key encoding-key number c =
+    let passed : fullCheck s ≡ silent = passed-is (c .checked) (fullCheck s) (c .check-ensures) (c .passed) in
+    record {
+      content-agrees = rw (c .content-ensures, c .keys-ensures) (content-agrees s passed content-key (c .content-size));
+      encoding-agrees = rw (c .encoding-ensures) (encoding-agrees s passed encoding-key (c .encoding-size));
+      spec-agrees = rw (c .spec-ensures, c .string-ensures) (spec-agrees s number (begun s passed));
+    }
