@@ -1,0 +1,189 @@
+-- The search for the first wanted record: record after record in a block, and block after block.
+use mathlib.Core.Path.{_≡_, refl, sym, ap, ap₂, _∙_, subst}
+use mathlib.Core.Bool.{Bool, true, false, _&&_, cond, false≢true}
+use mathlib.Core.List.{List, [], _∷_, _++_, append-nil}
+use Prim.Native.Nat.{ℕ, zero, suc, _+_, _-_, _^_, _≤_, _<_}
+use native.Mathlib.Nat.{sub-zero}
+use native.Mathlib.Numerals.{add-one}
+use native.Mathlib.Omega.{arith}
+use lib.IntN.{ℤ, pos, negsuc, _+ℤ_}
+use lib.ListN.{length, drop, replicate}
+use lib.Signed.{mag}
+use mir.Syntax.{w64}
+use mir.Val.{SFits, toZ, ofZ}
+use mir.Facts.{toZ-ofZ}
+use borrow.Author.Tests.{eq-eqb, ne-eqb}
+use Rattle.parts.specs.Part.{partAt, overlay}
+use Rattle.parts.proofs.Laws.{partAt-inside, overlay-inside}
+use Rattle.refusal.specs.Check.{silent}
+use Rattle.refusal.specs.Outcome.{Outcome, answered, absent}
+use Rattle.refusal.proofs.Laws.{first-left, first-right, after-quiet}
+use Rattle.root_layout.specs.declared.Layout.{Layout}
+use Rattle.root_layout.specs.Header.{layoutOf}
+use Rattle.root_block.specs.Ids.{deltaAt, idAt, mostId, inRange}
+use Rattle.root_block.specs.Block as block
+use Rattle.root_block.specs.Block.{blockOf, deltasOf, blockCheck, counts}
+use Rattle.root_block.proofs.Laws.{block-ids}
+use Rattle.root_block.proofs.Signed.{reckoned, one-fits, reckoned-is, reckoned-fits}
+use Rattle.root_block.proofs.Gathered.{idBefore, id-next, id-in-range, before-near}
+use Rattle.root.specs.Root.{blocksBy, blocksCheck, rootCheck}
+use Rattle.root.specs.Lookup.{Record, recordAt, recordsFrom, recordsIn, recordsBy, isId, wanted, foundIn, lookupOf, keyOr, outcome}
+use Rattle.root.specs.declared.Answer.{Answer}
+
+-- ---- one record
+
+module _ (want : Record → Bool) (r : Record) (rest : List Record) where
+  not-wanted : want r ≡ false → foundIn want (r ∷ rest) ≡ foundIn want rest
+  unfolding foundIn
+  not-wanted e = ap (λ t. cond t (answered (r .key ∷ [])) (foundIn want rest)) e
+
+  is-wanted : want r ≡ true → foundIn want (r ∷ rest) ≡ answered (r .key ∷ [])
+  unfolding foundIn
+  is-wanted e = ap (λ t. cond t (answered (r .key ∷ [])) (foundIn want rest)) e
+
+other-id : (id : ℕ) (z : ℤ) → (ofZ w64 z ≡ id → ⊥) → isId id z ≡ false
+unfolding isId
+other-id id (pos n) e = ne-eqb n id e
+other-id id (negsuc n) e = refl
+
+same-id : (id : ℕ) (z : ℤ) → inRange z ≡ true → ofZ w64 z ≡ id → isId id z ≡ true
+unfolding isId inRange
+same-id id (pos n) r e = eq-eqb n id e
+same-id id (negsuc n) r e = absurd (false≢true r)
+
+both : (t u : Bool) → t ≡ true → u ≡ true → (t && u) ≡ true
+both t u p q = rw (p, q)
+
+second : (t u : Bool) → u ≡ false → (t && u) ≡ false
+second true u q = q
+second false u q = refl
+
+-- ---- one block
+
+module _ (s : List ℕ) (l : Layout) (id locale unwanted at : ℕ) where
+  -- a block that does not count has no wanted record
+  pub block-skipped : counts locale unwanted (blockOf l (drop at s)) ≡ false
+      → (i n : ℕ) (tail : List Record) → foundIn (wanted id locale unwanted) (recordsFrom s l at i n ++ tail) ≡ foundIn (wanted id locale unwanted) tail
+  unfolding recordsFrom recordAt wanted
+  block-skipped e i zero tail = refl
+  block-skipped e i (suc n) tail =
+      not-wanted (wanted id locale unwanted) (recordAt s l at i) _ (ap (λ t. t && isId id (recordAt s l at i .id)) e)
+      ∙ block-skipped e (suc i) n tail
+
+-- Before record i of n: the id before it, and no record before it is wanted.
+pub record Passing (s : List ℕ) (l : Layout) (id locale unwanted at n i last : ℕ) : Type 0 where
+  pub before : toZ w64 last ≡ idBefore (deltasOf l (drop at s)) i
+  pub none : (tail : List Record) → foundIn (wanted id locale unwanted) (recordsFrom s l at 0 n ++ tail)
+      ≡ foundIn (wanted id locale unwanted) (recordsFrom s l at i (n - i) ++ tail)
+
+pub passing-none : (s : List ℕ) (l : Layout) (id locale unwanted at n : ℕ) → Passing s l id locale unwanted at n 0 18446744073709551615
+unfolding idBefore
+passing-none s l id locale unwanted at n = record { before = refl; none = λ tail. rw sub-zero }
+
+pub passing-all : {s : List ℕ} {l : Layout} {id locale unwanted at n i last : ℕ} → Passing s l id locale unwanted at n i last → i ≡ n
+    → (tail : List Record) → foundIn (wanted id locale unwanted) (recordsFrom s l at 0 n ++ tail) ≡ foundIn (wanted id locale unwanted) tail
+unfolding recordsFrom
+passing-all {s} {l} {id} {locale} {unwanted} {at} {n} {i} p e tail =
+    let nothing : n - i ≡ 0 = omega arith in
+    p .none tail ∙ ap (λ m. foundIn (wanted id locale unwanted) (recordsFrom s l at i m ++ tail)) nothing
+
+module _ {s : List ℕ} {l : Layout} {id locale unwanted at n i last : ℕ}
+    (p : Passing s l id locale unwanted at n i last)
+    (e : blockCheck l (drop at s) at ≡ silent) (c : n ≡ blockOf l (drop at s) .count) (h : i < n)
+    (r : ℤ) (small : mag r < 2147483648) where
+  near : mag (toZ w64 last) ≤ mostId
+  near =
+      subst (λ z. mag z ≤ mostId) (sym (p .before))
+      (before-near (deltasOf l (drop at s)) (blockOf l (drop at s) .count) at (block-ids l (drop at s) at e) i (omega arith))
+
+  room : mostId + 2147483648 < 2 ^ 63
+  room = omega arith
+
+  pub last-fits : SFits w64 (toZ w64 last +ℤ pos 1)
+  last-fits = one-fits last r mostId near room small
+
+  pub next-fits : SFits w64 (reckoned last r)
+  next-fits = reckoned-fits last r mostId near room small
+
+  module _ (q : r ≡ deltaAt (deltasOf l (drop at s)) i) where
+    next-is : reckoned last r ≡ idAt (deltasOf l (drop at s)) i
+    next-is =
+        reckoned-is last r mostId near room small
+        ∙ ap₂ (λ x y. x +ℤ pos 1 +ℤ y) (p .before) q
+        ∙ sym (id-next (deltasOf l (drop at s)) i)
+
+    here : (tail : List Record) → foundIn (wanted id locale unwanted) (recordsFrom s l at 0 n ++ tail)
+        ≡ foundIn (wanted id locale unwanted) (recordAt s l at i ∷ recordsFrom s l at (i + 1) (n - (i + 1)) ++ tail)
+    unfolding recordsFrom
+    here tail =
+        let more : n - i ≡ suc (n - (i + 1)) = omega arith in
+        let one : suc i ≡ i + 1 = omega arith in
+        p .none tail
+        ∙ ap (λ m. foundIn (wanted id locale unwanted) (recordsFrom s l at i m ++ tail)) more
+        ∙ ap (λ j. foundIn (wanted id locale unwanted) (recordAt s l at i ∷ recordsFrom s l at j (n - (i + 1)) ++ tail)) one
+
+    pub passing-next : (ofZ w64 (reckoned last r) ≡ id → ⊥) → Passing s l id locale unwanted at n (i + 1) (ofZ w64 (reckoned last r))
+    unfolding recordAt wanted idBefore
+    passing-next other =
+        let not-this = second (counts locale unwanted (blockOf l (drop at s))) (isId id (idAt (deltasOf l (drop at s)) i)) (other-id id _ (λ g. other (ap (ofZ w64) next-is ∙ g))) in
+        record {
+          before = toZ-ofZ next-fits ∙ next-is ∙ ap (idBefore (deltasOf l (drop at s))) (sym (add-one i));
+          none = λ tail. here tail ∙ not-wanted (wanted id locale unwanted) (recordAt s l at i) _ not-this;
+        }
+
+    pub passing-found : counts locale unwanted (blockOf l (drop at s)) ≡ true → ofZ w64 (reckoned last r) ≡ id
+        → (tail : List Record) → foundIn (wanted id locale unwanted) (recordsFrom s l at 0 n ++ tail) ≡ answered ((at + block.keyAt l (blockOf l (drop at s)) i) ∷ [])
+    unfolding recordAt wanted
+    passing-found t same tail =
+        here tail
+        ∙ is-wanted (wanted id locale unwanted) (recordAt s l at i) _
+        (both _ _ t (same-id id _ (id-in-range (deltasOf l (drop at s)) (blockOf l (drop at s) .count) at (block-ids l (drop at s) at e) i (omega arith)) (ap (ofZ w64) (sym next-is) ∙ same)))
+
+-- ---- block after block
+
+-- These blocks pass the check, and the first wanted record of the file is the first of theirs.
+abbrev pub Unsearched : List ℕ → Layout → (Record → Bool) → List ℕ → Type 0
+Unsearched s l want rest = (blocksCheck s l rest ≡ silent) × (foundIn want (recordsBy s l) ≡ foundIn want (recordsIn s l rest))
+
+module _ (s : List ℕ) (l : Layout) (want : Record → Bool) (at : ℕ) (rest : List ℕ) (u : Unsearched s l want (at ∷ rest)) where
+  pub block-passed : blockCheck l (drop at s) at ≡ silent
+  unfolding blocksCheck
+  block-passed = first-left _ _ (u .0)
+
+  pub found-here : (n : ℕ) → n ≡ blockOf l (drop at s) .count → foundIn want (recordsBy s l) ≡ foundIn want (recordsFrom s l at 0 n ++ recordsIn s l rest)
+  unfolding recordsIn
+  found-here n e = u .1 ∙ ap (λ m. foundIn want (recordsFrom s l at 0 m ++ recordsIn s l rest)) (sym e)
+
+  pub search-on : (n : ℕ) → n ≡ blockOf l (drop at s) .count
+      → ((tail : List Record) → foundIn want (recordsFrom s l at 0 n ++ tail) ≡ foundIn want tail) → Unsearched s l want rest
+  unfolding blocksCheck
+  search-on n e nothing = (first-right _ _ (u .0), found-here n e ∙ nothing (recordsIn s l rest))
+
+pub search-ended : (s : List ℕ) (l : Layout) (want : Record → Bool) → Unsearched s l want [] → foundIn want (recordsBy s l) ≡ absent []
+unfolding recordsIn foundIn
+search-ended s l want u = u .1
+
+-- ---- the whole lookup
+
+pub root-passed : (s : List ℕ) (l : Layout) → rootCheck s ≡ silent → l ≡ layoutOf s → blocksCheck s l (blocksBy s l) ≡ silent
+unfolding rootCheck
+root-passed s l e g = rw g (first-right _ _ e)
+
+pub search-is : (s : List ℕ) (l : Layout) (id locale unwanted : ℕ) (a b : Answer) → rootCheck s ≡ silent → l ≡ layoutOf s
+    → a ≡ b → outcome a ≡ foundIn (wanted id locale unwanted) (recordsBy s l) → outcome b ≡ lookupOf s id locale unwanted
+unfolding lookupOf
+search-is s l id locale unwanted a b e g q p =
+    ap outcome (sym q) ∙ p ∙ ap (λ m. foundIn (wanted id locale unwanted) (recordsBy s m)) g ∙ sym (after-quiet _ e)
+
+-- a whole key laid over zeros
+pub key-laid : (s : List ℕ) (at : ℕ) → at + 16 ≤ length s → overlay (replicate 16 0) 0 (partAt s at 16) ≡ partAt s at 16
+key-laid s at h =
+    let long : length (partAt s at 16) ≡ 16 = partAt-inside s at 16 h in
+    overlay-inside (replicate 16 0) 0 (partAt s at 16) (omega arith)
+    ∙ ap (λ n. partAt s at 16 ++ drop (0 + n) (replicate 16 0)) long
+    ∙ append-nil (partAt s at 16)
+
+-- where a key is found, no other bytes matter
+pub key-found : (s key a b : List ℕ) (at : ℕ) (o : Outcome) → key ≡ keyOr s a o → answered (at ∷ []) ≡ o → key ≡ keyOr s b o
+unfolding keyOr
+key-found s key a b at o k e = k ∙ ap (keyOr s a) (sym e) ∙ ap (keyOr s b) e

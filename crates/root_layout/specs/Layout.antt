@@ -1,0 +1,63 @@
+-- How the blocks of a root file are laid out, as a value: rules R7 and R8.
+use mathlib.Core.Bool.{true, false, cond}
+use Prim.Native.Nat.{ℕ, _+_}
+use Rattle.root_layout.specs.declared.Layout.{Layout}
+
+-- The bytes of a block header's count and locale flags, of its content flags (four; no file of today has five), and of the unknown
+-- bytes after them, 4 and 1.
+abbrev pub countSize : ℕ
+countSize = 4
+
+abbrev pub localeSize : ℕ
+localeSize = 4
+
+abbrev pub narrowContentSize : ℕ
+narrowContentSize = 4
+
+abbrev pub wideContentSize : ℕ
+wideContentSize = 5
+
+abbrev pub unknownSize : ℕ
+unknownSize = 5
+
+abbrev pub contentSize : Layout → ℕ
+contentSize l = cond (l .«wide_content») wideContentSize narrowContentSize
+
+-- Where the flags stand in a block: after the count, in one order or the other.
+abbrev pub localeAt : Layout → ℕ
+localeAt l = cond (l .«locale_first») countSize (countSize + contentSize l)
+
+abbrev pub contentAt : Layout → ℕ
+contentAt l = cond (l .«locale_first») (countSize + localeSize) countSize
+
+-- The bytes of a block header, after which the deltas stand.
+unfoldable pub headerSize : Layout → ℕ
+headerSize l = countSize + localeSize + contentSize l + l .unknown
+
+-- Content bit 13.
+abbrev pub noNameHashes : ℕ
+noNameHashes = 8192
+
+-- Version 1, blocks from byte 0 (rule R2): count, content flags, locale flags, deltas, then for each record key and name hash
+-- (rule R7).
+abbrev pub version1 : Layout
+version1 = record {
+  start = 0;
+  «locale_first» = false;
+  «wide_content» = false;
+  unknown = 0;
+  interleaved = true;
+  «no_hashes» = 0;
+}
+
+-- All others, blocks after the header: count, locale flags, content flags, 4 and 1 unknown bytes, deltas, all keys, then all
+-- name hashes unless content bit 13 is set (rule R8).
+abbrev pub later : ℕ → Layout
+later start = record {
+  start = start;
+  «locale_first» = true;
+  «wide_content» = false;
+  unknown = unknownSize;
+  interleaved = false;
+  «no_hashes» = noNameHashes;
+}
