@@ -1,17 +1,17 @@
--- How an answer crosses to C: a result, and eight words.
+-- How an answer crosses to C, as a result and eight words: rules S1 to S3 and S5.
 use mathlib.Core.List.{List, [], _∷_, _++_}
 use Prim.Native.Nat.{ℕ}
 use lib.ListN.{take, replicate}
 use Rattle.refusal.specs.Check.{Check}
 use Rattle.refusal.specs.Outcome.{Outcome, answered, absent, refusal, after}
 
--- 0 answered, 1 absent, 2 refused.
+-- 0 answered, 1 absent, 2 refused (rule S2).
 unfoldable pub result : Outcome → ℕ
 result (answered values) = 0
 result (absent values) = 1
 result (refusal number place) = 2
 
--- The values, or a refusal's number and place; the other words are 0.
+-- The values (rule S5), or a refusal's number and place (rule S3); the other words are 0 (rule S1).
 unfoldable pub answerWords : Outcome → List ℕ
 answerWords (answered values) = take 8 (values ++ replicate 8 0)
 answerWords (absent values) = take 8 (values ++ replicate 8 0)

@@ -1,4 +1,4 @@
--- What C hands over of indexes, where the library has another form for it.
+-- What C gives for indexes, where the library has another form for it: rules I15 and S1.
 use Prim.Native.Nat.{ℕ}
 use Rattle.writer.specs.declared.Settings.{Settings}
 

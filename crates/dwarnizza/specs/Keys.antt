@@ -1,4 +1,4 @@
--- What reading a key's text tells C.
+-- What reading a key's text tells C: rules S5 and T3.
 use mathlib.Core.List.{List, [], _∷_}
 use Prim.Native.Nat.{ℕ}
 use Rattle.refusal.specs.Outcome.{Outcome, answered, after}

@@ -1,5 +1,6 @@
 pub mod Answer
 pub mod Envelopes
+pub mod FileNumbers
 pub mod Indexes
 pub mod Keys
 pub mod Md5State

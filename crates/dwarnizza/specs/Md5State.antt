@@ -1,4 +1,4 @@
--- The MD5 state as C holds it: four words, 64 pending bytes and the count.
+-- The MD5 state as C holds it, as four words, 64 pending bytes and the count: rule S4.
 use mathlib.Core.Bool.{cond}
 use mathlib.Core.List.{List, [], _∷_}
 use Prim.Native.Nat.{ℕ, _+_}
@@ -16,6 +16,6 @@ wordsTo w = w .a ∷ w .b ∷ w .c ∷ w .d ∷ []
 abbrev pub stateOf : List ℕ → List ℕ → ℕ → Md5
 stateOf words pending count = record { words = wordsFrom words; pending = pending; count = count }
 
--- The words after one more part; a refused one leaves them.
+-- The words after one more part; a refused one leaves them (rule H14).
 abbrev pub wordsAfter : List ℕ → List ℕ → ℕ → List ℕ → List ℕ
 wordsAfter words pending count part = cond (tooLong (count + length part)) words (wordsTo ((absorbed (stateOf words pending count) part) .words))

@@ -1,7 +1,10 @@
 // How an answer is laid out.
+use lookup::Entry;
 use refusal::Refusal;
 use refusal::Verdict;
 ghost use mathlib.Core.Path.{_≡_};
+ghost use mathlib.Core.List.{_∷_};
+ghost use lib.ListN.{replicate};
 ghost use Rattle.refusal.specs.Check.{checkOf};
 ghost use Rattle.refusal.specs.Outcome.{refusal};
 ghost use Rattle.dwarnizza.specs.Answer.{result, answerWords, verdictOutcome};
@@ -29,4 +32,18 @@ pub(crate) fn tell(verdict: Verdict, answer: &mut [u64; 8]) -> u32
         }
         Verdict::Refused(r) => refused(r, answer),
     }
+}
+
+// The words of an index entry that was found.
+pub(crate) fn entry_words(e: Entry) -> [u64; 8]
+    ensures { λ r. ⌜ r ≡ e .page .0 ∷ e .slot .0 ∷ e .size ∷ e .location ∷ e .compared ∷ replicate 3 0 ⌝ }
+{
+    let page = e.page;
+    let slot = e.slot;
+    let p = page.0 as u64;
+    let i = slot.0 as u64;
+    let size = e.size as u64;
+    let location = e.location;
+    let compared = e.compared as u64;
+    [p, i, size, location, compared, 0, 0, 0]
 }

@@ -1,4 +1,5 @@
 // Archive indexes.
+use crate::answer::entry_words;
 use crate::answer::refused;
 use entries::Listed;
 use index_open::Checked;
@@ -73,14 +74,7 @@ pub extern "C" fn dwarnizza_index_lookup(index: &[u8], key: &[u8], answer: &mut 
             1
         }
         Answer::Found(e) => {
-            let page = e.page;
-            let slot = e.slot;
-            let p = page.0 as u64;
-            let i = slot.0 as u64;
-            let size = e.size as u64;
-            let location = e.location;
-            let compared = e.compared as u64;
-            *answer = [p, i, size, location, compared, 0, 0, 0];
+            *answer = entry_words(e);
             0
         }
     }

@@ -1,8 +1,8 @@
 -- `dwarnizza::indexes::dwarnizza_index_lookup`: what `lookup::lookup` answers, laid out.
 use mathlib.Core.Path.{sym, ap, _∙_}
+use borrow.Author.Needs.{needs}
 use Rattle.lookup.specs.Lookup.{outcome}
 use Rattle.dwarnizza.specs.Answer.{result, answerWords}
-use borrow.Author.Needs.{needs}
 use Rattle.dwarnizza.proofs.indexes.dwarnizza_index_lookup.Statement.{statement}
 use Rattle.dwarnizza.proofs.indexes.dwarnizza_index_lookup.Tie as tie
 
@@ -18,41 +18,29 @@ refused-requires c κs = search needs
 enum-known-n : tie.Need-enum-known-n
 enum-known-n c = search needs
 
-cast-t17 : tie.Need-cast-t17
-cast-t17 c = search needs
+cast-t10 : tie.Need-cast-t10
+cast-t10 c = search needs
 
 enum-known-e : tie.Need-enum-known-e
 enum-known-e c = search needs
 
-cast-p : tie.Need-cast-p
-cast-p c = search needs
-
-cast-i : tie.Need-cast-i
-cast-i c = search needs
-
-cast-size : tie.Need-cast-size
-cast-size c = search needs
-
-cast-compared : tie.Need-cast-compared
-cast-compared c = search needs
+entry-words-requires : tie.Need-entry-words-requires
+entry-words-requires c κs = search needs
 
 returns : tie.Need-returns
 unfolding outcome
-returns c =
-    let e = sym (ap outcome (c .before .before .before .r .given .1)) ∙ c .before .before .before .before .before .lookup .ensures in
+returns c = let e = sym (ap outcome (c .before .before .before .r .given .1)) ∙ c .before .before .before .before .before .lookup .ensures in
     (c .refused .ensures .0 ∙ ap result e, c .refused .ensures .1 ∙ ap answerWords e)
 
 returns-2 : tie.Need-returns-2
 unfolding outcome result answerWords
-returns-2 c =
-    let e = sym (ap outcome (c .before .before .n .given .1)) ∙ c .before .before .before .before .lookup .ensures in
+returns-2 c = let e = sym (ap outcome (c .before .before .n .given .1)) ∙ c .before .before .before .before .lookup .ensures in
     (ap result e, ap answerWords e)
 
 returns-3 : tie.Need-returns-3
 unfolding outcome result answerWords
-returns-3 c =
-    let e = sym (ap outcome (c .before .before .before .before .before .before .before .before .e .given .1)) ∙ c .before .before .before .before .before .before .before .before .before .before .lookup .ensures in
-    (ap result e, ap answerWords e)
+returns-3 c = let e = sym (ap outcome (c .before .before .e .given .1)) ∙ c .before .before .before .before .lookup .ensures in
+    (ap result e, c .entry-words .ensures ∙ ap answerWords e)
 
 pub dwarnizza-index-lookup-spec : {M : Type 1} → statement M
 dwarnizza-index-lookup-spec =
@@ -62,12 +50,9 @@ dwarnizza-index-lookup-spec =
     enum-known-r
     refused-requires
     enum-known-n
-    cast-t17
+    cast-t10
     enum-known-e
-    cast-p
-    cast-i
-    cast-size
-    cast-compared
+    entry-words-requires
     returns
     returns-2
     returns-3)

@@ -1,0 +1,90 @@
+// Encoding files.
+use crate::answer::refused;
+use crate::answer::tell;
+use encoding_lookup::ContentFound;
+use encoding_lookup::EncodingFound;
+use encoding_lookup::SpecFound;
+ghost use mathlib.Core.Path.{_≡_};
+ghost use Rattle.encoding.specs.Check.{fullCheck};
+ghost use Rattle.encoding_lookup.specs.Lookup.{contentLookup, encodingLookup, specLookup};
+ghost use Rattle.dwarnizza.specs.Answer.{result, answerWords, verdictOutcome};
+
+// The full check of an encoding file.
+#[no_mangle]
+pub extern "C" fn dwarnizza_encoding_check(file: &[u8], answer: &mut [u64; 8]) -> u32
+    ensures { λ r. ⌜ r ≡ result (verdictOutcome (fullCheck (now (file .entry)))) ⌝ }
+    ensures { λ _. ⌜ now (answer .exit) ≡ answerWords (verdictOutcome (fullCheck (now (file .entry)))) ⌝ }
+{
+    tell(encoding::check(file), answer)
+}
+
+// The lookup of a content key: decoded size, number of encoding keys, place and length of their run.
+#[no_mangle]
+pub extern "C" fn dwarnizza_encoding_find_content(
+    file: &[u8],
+    key: &[u8],
+    answer: &mut [u64; 8],
+) -> u32
+    ensures { λ r. ⌜ r ≡ result (contentLookup (now (file .entry)) (now (key .entry))) ⌝ }
+    ensures { λ _. ⌜ now (answer .exit) ≡ answerWords (contentLookup (now (file .entry)) (now (key .entry))) ⌝ }
+{
+    match encoding_lookup::find_content(file, key) {
+        ContentFound::Refused(r) => refused(r, answer),
+        ContentFound::Absent => {
+            *answer = [0u64; 8];
+            1
+        }
+        ContentFound::Found(e) => {
+            let size = e.size;
+            let keys = e.keys as u64;
+            let at = e.at as u64;
+            let length = e.length as u64;
+            *answer = [size, keys, at, length, 0, 0, 0, 0];
+            0
+        }
+    }
+}
+
+// The lookup of an encoding key: spec number, encoded size, place and length of the spec.
+#[no_mangle]
+pub extern "C" fn dwarnizza_encoding_find_encoding(
+    file: &[u8],
+    key: &[u8],
+    answer: &mut [u64; 8],
+) -> u32
+    ensures { λ r. ⌜ r ≡ result (encodingLookup (now (file .entry)) (now (key .entry))) ⌝ }
+    ensures { λ _. ⌜ now (answer .exit) ≡ answerWords (encodingLookup (now (file .entry)) (now (key .entry))) ⌝ }
+{
+    match encoding_lookup::find_encoding(file, key) {
+        EncodingFound::Refused(r) => refused(r, answer),
+        EncodingFound::Absent => {
+            *answer = [0u64; 8];
+            1
+        }
+        EncodingFound::Found(e) => {
+            let spec = e.spec as u64;
+            let size = e.size;
+            let at = e.at as u64;
+            let length = e.length as u64;
+            *answer = [spec, size, at, length, 0, 0, 0, 0];
+            0
+        }
+    }
+}
+
+// A spec by its number: its place and length.
+#[no_mangle]
+pub extern "C" fn dwarnizza_encoding_spec(file: &[u8], number: u32, answer: &mut [u64; 8]) -> u32
+    ensures { λ r. ⌜ r ≡ result (specLookup (now (file .entry)) number) ⌝ }
+    ensures { λ _. ⌜ now (answer .exit) ≡ answerWords (specLookup (now (file .entry)) number) ⌝ }
+{
+    match encoding_lookup::find_spec(file, number) {
+        SpecFound::Refused(r) => refused(r, answer),
+        SpecFound::Found(s) => {
+            let at = s.at as u64;
+            let length = s.length as u64;
+            *answer = [at, length, 0, 0, 0, 0, 0, 0];
+            0
+        }
+    }
+}

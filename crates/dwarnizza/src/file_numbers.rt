@@ -1,0 +1,41 @@
+// File numbers.
+use crate::answer::entry_words;
+use chain::Resolved;
+ghost use mathlib.Core.Path.{_≡_};
+ghost use Rattle.chain.specs.Chain.{resolve};
+ghost use Rattle.dwarnizza.specs.FileNumbers.{chainResult, chainWords};
+
+// Follows a file number through root, encoding file and index: page, slot, size, location and comparisons; where a link is absent,
+// the link and the comparisons; where one refuses, its number, place and link.
+#[no_mangle]
+pub extern "C" fn dwarnizza_resolve(
+    root: &[u8],
+    encoding: &[u8],
+    index: &[u8],
+    id: u32,
+    locale: u32,
+    unwanted: u64,
+    answer: &mut [u64; 8],
+) -> u32
+    ensures { λ r. ⌜ r ≡ chainResult (resolve (now (root .entry)) (now (encoding .entry)) (now (index .entry)) id locale unwanted) ⌝ }
+    ensures { λ _. ⌜ now (answer .exit) ≡ chainWords (resolve (now (root .entry)) (now (encoding .entry)) (now (index .entry)) id locale unwanted) ⌝ }
+{
+    match chain::resolve(root, encoding, index, id, locale, unwanted) {
+        Resolved::Refused(link, r) => {
+            let number = r.number as u64;
+            let place = r.place as u64;
+            let at = link.number() as u64;
+            *answer = [number, place, at, 0, 0, 0, 0, 0];
+            2
+        }
+        Resolved::Absent(link, n) => {
+            let at = link.number() as u64;
+            *answer = [0, 0, at, 0, n as u64, 0, 0, 0];
+            1
+        }
+        Resolved::Found(e) => {
+            *answer = entry_words(e);
+            0
+        }
+    }
+}
