@@ -62,6 +62,21 @@ enum {
     DWARNIZZA_DECODED_SIZE = 25,         /* decoded size not encoded size less 1; place: chunk */
     DWARNIZZA_CONTENT_OUTPUT_SHORT = 26, /* output shorter than the content */
     DWARNIZZA_ENVELOPE_KEY = 27,         /* envelope key not the one given */
+    DWARNIZZA_NOT_ENCODING = 30,         /* under 22 bytes, or not EN */
+    DWARNIZZA_ENCODING_HEADER = 31,      /* a header field outside its range */
+    DWARNIZZA_ENCODING_CUT = 32,         /* parts run past the end */
+    DWARNIZZA_SPEC_TABLE_OPEN = 33,      /* last spec not closed */
+    DWARNIZZA_ENCODING_PAGE_HASH = 34,   /* page hash wrong; place: page */
+    DWARNIZZA_ENTRY_OVER_PAGE = 35,      /* entry over the page's end; place: page */
+    DWARNIZZA_ENCODING_ORDER = 36,       /* key not above the one before; place: page */
+    DWARNIZZA_FIRST_KEY = 37,            /* first key wrong; place: page */
+    DWARNIZZA_SPEC_NUMBER = 38,          /* spec number past the table */
+    DWARNIZZA_ENCODING_KEY_LENGTH = 39,  /* sought key not of the file's key length */
+    DWARNIZZA_BLOCK_CUT = 40,            /* block cut; place: byte offset of the block */
+    DWARNIZZA_ID_RANGE = 41,             /* id outside its range; place: as of 40 */
+    DWARNIZZA_ROOT_HEADER_SIZE = 42,     /* header size from 16 to 19 */
+    DWARNIZZA_ROOT_HEADER_CUT = 43,      /* header cut */
+    DWARNIZZA_ROOT_VERSION = 44,         /* version 4 */
     DWARNIZZA_HASH_LIMIT = 50,           /* more than 2^48 bytes hashed */
     DWARNIZZA_KEY_TEXT_LENGTH = 60,      /* key text not 2 * K characters */
     DWARNIZZA_HEX_DIGIT = 61,            /* not a hex digit; place: digit */
@@ -301,6 +316,167 @@ uint32_t dwarnizza_envelope_length(const uint8_t *file, size_t file_len,
  */
 uint32_t dwarnizza_envelope_key(const uint8_t *file, size_t file_len,
                                 uint8_t key[16], uint64_t answer[8]);
+
+/*
+ * Encoding file
+ *
+ * An encoding file, taken out of its envelope, gives for each content key its
+ * decoded size and its encoding keys, and for each encoding key its encoded
+ * size and the spec that it was encoded by. It is a header of 22 bytes, the
+ * table of specs, an index and pages of content entries, an index and pages of
+ * encoding entries, and the file's own spec; numbers are big-endian. An index
+ * has for each page its first key and its MD5. Content keys have C bytes and
+ * encoding keys E, each 1 to 16 by the header.
+ *
+ * A content entry is the number of its encoding keys (1 byte), the decoded size
+ * (5), the content key and the encoding keys; a number of 0 ends the page
+ * early. An encoding entry is the encoding key, the number of its spec (4) and
+ * the encoded size (5); with the number 0xFFFFFFFF, or 0 and a key of zeros, it
+ * is padding and is skipped. Keys rise through all pages of a kind. A spec is
+ * closed by a zero byte. Pages count from 0 within their kind, specs from 0.
+ *
+ * The full check refuses with the first that holds, in this order:
+ *
+ *     30, 31, 32, 33   the header or the parts are wrong
+ *     page by page, first the content pages and then the encoding pages:
+ *     34, 35           the page's hash is wrong, an entry runs over its end
+ *     37               its stored first key is wrong, or it has no entry
+ *     36               a key on it is not above the one before
+ *     38               a spec number on it is past the table
+ *
+ * A lookup goes to the highest-numbered page of its kind whose stored first key
+ * is not above the sought key, and through that page's entries to the first
+ * with the sought key. It refuses with 30 to 33 as the full check does, then
+ * with 39 where the key is not of C bytes, or of E, and makes no other check
+ * but those named with it. In a file that passes the full check it finds
+ * exactly the keys that stand there. In any other it answers by the same rule,
+ * and may miss a key: check a file once before it is searched.
+ *
+ * Encoding keys and specs are handed back as parts of the file: the place of
+ * the part's first byte in the file, and its length.
+ */
+
+/*
+ * The full check of an encoding file.
+ * Answered: it passes; no word of the answer is named.
+ * Refused: as the full check refuses.
+ */
+uint32_t dwarnizza_encoding_check(const uint8_t *file, size_t file_len,
+                                  uint64_t answer[8]);
+
+/*
+ * The lookup of a content key, of C bytes.
+ * Answered: the key is found; answer[0] is the decoded size, [1] the number of
+ * encoding keys, [2] and [3] the place and the length of these keys, which
+ * stand one after the other.
+ * Absent: no word of the answer is named.
+ * Refused: as a lookup refuses; then 35, with the page, where an entry over the
+ * page's end comes before the key is found.
+ */
+uint32_t dwarnizza_encoding_find_content(const uint8_t *file, size_t file_len,
+                                         const uint8_t *key, size_t key_len,
+                                         uint64_t answer[8]);
+
+/*
+ * The lookup of an encoding key, of E bytes.
+ * Answered: the key is found; answer[0] is the number of its spec, [1] the
+ * encoded size, [2] and [3] the place and the length of the spec, without its
+ * zero byte.
+ * Absent: no word of the answer is named.
+ * Refused: as a lookup refuses; then 38 where the spec number of the entry
+ * found is past the table.
+ */
+uint32_t dwarnizza_encoding_find_encoding(const uint8_t *file, size_t file_len,
+                                          const uint8_t *key, size_t key_len,
+                                          uint64_t answer[8]);
+
+/*
+ * The spec of a number.
+ * Answered: answer[0] and [1] are the place and the length of the spec, without
+ * its zero byte.
+ * Refused: 30 to 33 as the full check refuses; then 38 where the number is past
+ * the table.
+ */
+uint32_t dwarnizza_encoding_spec(const uint8_t *file, size_t file_len,
+                                 uint32_t number, uint64_t answer[8]);
+
+/*
+ * Root file
+ *
+ * A root file, taken out of its envelope, gives content keys for file numbers
+ * (FileDataIDs). It is a header and blocks; numbers are little-endian. A header
+ * starts with "MFST" or "TSFM" and two numbers, a and b. Where a is 16 to 99 and
+ * b is 2, 3 or 4, the header has a bytes, and b is the version, of which 4 is
+ * refused; else it has 12. A file that starts otherwise has no header and is of
+ * version 1.
+ *
+ * A block of version 1 is the count of its records (4 bytes), content flags (4),
+ * locale flags (4), a delta for each record (4), and for each record a content
+ * key (16) and a name hash (8). All other blocks are the count, locale flags,
+ * content flags, 5 unknown bytes, the deltas, all content keys, and all name
+ * hashes unless content bit 13 is set. The first id of a block is its first
+ * delta, and each next id is the one before, plus 1, plus the delta, a signed
+ * number; ids are 0 to 4,294,967,295 and do not wrap.
+ *
+ * The full check refuses with the first that holds, in this order:
+ *
+ *     43           there is a magic, and the file is under 12 bytes
+ *     44, 42, 43   the header is of version 4, is under 20 bytes, is cut
+ *     block by block:
+ *     40, 41       the block is cut, an id in it is outside its range
+ */
+
+/*
+ * The full check of a root file.
+ * Answered: it passes; no word of the answer is named.
+ * Refused: as the full check refuses.
+ */
+uint32_t dwarnizza_root_check(const uint8_t *file, size_t file_len,
+                              uint64_t answer[8]);
+
+/*
+ * The content key of an id: that of the first record with this id, in the order
+ * of the file, in the blocks whose locale flags share a bit with locale and
+ * whose content flags share none with unwanted.
+ * Answered: it is found; key is written, and answer[0] is its place in the file.
+ * Absent: key keeps its bytes; no word of the answer is named.
+ * Refused: as the full check refuses, which is made first.
+ */
+uint32_t dwarnizza_root_find(const uint8_t *file, size_t file_len, uint32_t id,
+                             uint32_t locale, uint64_t unwanted,
+                             uint8_t key[16], uint64_t answer[8]);
+
+/*
+ * Chain
+ *
+ * The chain leads from a file number to the encoded size and the location of
+ * the file. It has three links, and each is a lookup from above:
+ *
+ *     1  root      dwarnizza_root_find gives the content key
+ *     2  encoding  dwarnizza_encoding_find_content gives the encoding keys, of
+ *                  which the first is followed
+ *     3  index     dwarnizza_index_lookup gives the size and the location
+ *
+ * The first link that is absent or refuses ends the chain, and the files of
+ * later links are not read. A build has an index for each archive: what is
+ * absent at link 3 may be in another.
+ */
+
+/*
+ * The size and the location of a file by its number, with the masks that
+ * dwarnizza_root_find takes.
+ * Answered: the file is found; the words are those of dwarnizza_index_lookup.
+ * Absent: answer[2] is the link; at link 3 answer[4] is how many stored keys of
+ * the index were compared.
+ * Refused: as the lookup of the link refuses; answer[2] is the link. At link 2
+ * that is 39 where C is not 16, and at link 3, after 1 to 5, 10 where K is not
+ * E. A key is never cut or filled up.
+ */
+uint32_t dwarnizza_resolve(const uint8_t *root, size_t root_len,
+                           const uint8_t *encoding, size_t encoding_len,
+                           const uint8_t *index, size_t index_len, uint32_t id,
+                           uint32_t locale, uint64_t unwanted,
+                           uint64_t answer[8]);
 
 /*
  * Key text

@@ -156,7 +156,7 @@ pub fn repeat<T>(times: u64, mut task: impl FnMut() -> T) {
 }
 
 /// The MD5 of each page by the library, all taken together so that none is left out.
-fn md5_of_each(pages: &[u8]) -> u8 {
+pub fn md5_of_each(pages: &[u8]) -> u8 {
     let (pages, _) = pages.as_chunks::<PAGE>();
     pages.iter().fold(0, |all, page| {
         all ^ dwarnizza::md5(page).expect("a page is below the limit")[0]

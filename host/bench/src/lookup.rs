@@ -11,19 +11,19 @@ use crate::measure::{BATCH, Contender, ROUNDS};
 const ENTRIES: [(usize, &str); 2] = [(50_000, "50,000"), (8_388_608, "8,388,608")];
 
 /// How many keys are sought, one after the other and then from the first again.
-const SOUGHT: u64 = 65_536;
+pub const SOUGHT: u64 = 65_536;
 
 /// How many bytes of a footer are hashed.
 const FOOTER_HASHED: usize = 20;
 
-type Key = [u8; 16];
+pub type Key = [u8; 16];
 
 /// Size and location.
 type Value = (u32, u64);
 
 /// What is sought.
 #[derive(Clone, Copy)]
-enum Sought {
+pub enum Sought {
     Found,
     Absent,
 }
@@ -116,7 +116,7 @@ fn entry(bytes: &[u8]) -> (Key, Value) {
 }
 
 /// A number that looks random, of this one: splitmix64.
-fn mixed(number: u64) -> u64 {
+pub fn mixed(number: u64) -> u64 {
     let mut z = number.wrapping_add(1).wrapping_mul(0x9e37_79b9_7f4a_7c15);
     z = (z ^ (z >> 30)).wrapping_mul(0xbf58_476d_1ce4_e5b9);
     z = (z ^ (z >> 27)).wrapping_mul(0x94d0_49bb_1331_11eb);
@@ -189,7 +189,7 @@ fn print_row(forms: &Forms, sought: Sought, shown: &str) {
 }
 
 /// Does a task with one key after the other.
-fn each<'a, T>(keys: &'a [Key], task: impl Fn(&Key) -> T + 'a) -> Contender<'a> {
+pub fn each<'a, T>(keys: &'a [Key], task: impl Fn(&Key) -> T + 'a) -> Contender<'a> {
     let mut keys = keys.iter().cycle();
     Box::new(move |times| {
         for key in keys.by_ref().take(times as usize) {

@@ -2,21 +2,25 @@
 //!
 //! One module for each benchmark. Run with `cargo run --release --offline -p bench -- NAME`.
 
+mod encoding;
 mod envelope;
 mod index;
 mod lookup;
 mod md5;
 mod measure;
+mod root;
 
 use std::env;
 use std::process::ExitCode;
 
 /// Each benchmark by its name.
-const BENCHMARKS: [(&str, fn()); 4] = [
+const BENCHMARKS: [(&str, fn()); 6] = [
     ("md5", md5::run),
     ("index", index::run),
     ("lookup", lookup::run),
     ("envelope", envelope::run),
+    ("encoding", encoding::run),
+    ("root", root::run),
 ];
 
 fn main() -> ExitCode {

@@ -40,15 +40,25 @@ pub fn searched(call: impl FnOnce(&mut [u64; 8]) -> u32) -> Result<Search, Refus
 
 fn refusal(words: &[u64; 8]) -> Refusal {
     Refusal {
-        number: u32::try_from(words[0]).expect("a refusal's number has 32 bits"),
+        number: number(words[0]),
         place: words[1],
-        link: match words[2] {
-            0 => None,
-            1 => Some(Link::Root),
-            2 => Some(Link::Encoding),
-            3 => Some(Link::Index),
-            link => panic!("the library named link {link} of a chain of three"),
-        },
+        link: link(words[2]),
+    }
+}
+
+/// The number of 32 bits that a word is.
+pub fn number(word: u64) -> u32 {
+    u32::try_from(word).expect("it has 32 bits")
+}
+
+/// The link that a word names; none outside a chain.
+pub fn link(word: u64) -> Option<Link> {
+    match word {
+        0 => None,
+        1 => Some(Link::Root),
+        2 => Some(Link::Encoding),
+        3 => Some(Link::Index),
+        _ => panic!("the library named link {word} of a chain of three"),
     }
 }
 

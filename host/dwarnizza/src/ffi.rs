@@ -96,6 +96,57 @@ unsafe extern "C" {
         answer: &mut [u64; 8],
     ) -> u32;
 
+    pub fn dwarnizza_encoding_check(file: *const u8, file_len: usize, answer: &mut [u64; 8])
+    -> u32;
+
+    pub fn dwarnizza_encoding_find_content(
+        file: *const u8,
+        file_len: usize,
+        key: *const u8,
+        key_len: usize,
+        answer: &mut [u64; 8],
+    ) -> u32;
+
+    pub fn dwarnizza_encoding_find_encoding(
+        file: *const u8,
+        file_len: usize,
+        key: *const u8,
+        key_len: usize,
+        answer: &mut [u64; 8],
+    ) -> u32;
+
+    pub fn dwarnizza_encoding_spec(
+        file: *const u8,
+        file_len: usize,
+        number: u32,
+        answer: &mut [u64; 8],
+    ) -> u32;
+
+    pub fn dwarnizza_root_check(file: *const u8, file_len: usize, answer: &mut [u64; 8]) -> u32;
+
+    pub fn dwarnizza_root_find(
+        file: *const u8,
+        file_len: usize,
+        id: u32,
+        locale: u32,
+        unwanted: u64,
+        key: &mut [u8; 16],
+        answer: &mut [u64; 8],
+    ) -> u32;
+
+    pub fn dwarnizza_resolve(
+        root: *const u8,
+        root_len: usize,
+        encoding: *const u8,
+        encoding_len: usize,
+        index: *const u8,
+        index_len: usize,
+        id: u32,
+        locale: u32,
+        unwanted: u64,
+        answer: &mut [u64; 8],
+    ) -> u32;
+
     pub fn dwarnizza_key_text(
         text: *const u8,
         text_len: usize,

@@ -40,7 +40,7 @@ impl Settings {
         usize::from(self.key_length) + 4 + usize::from(self.offset_width)
     }
 
-    /// How many bytes the index of so many entries has. Settings and counts that [`write`] refuses
+    /// How many bytes the index of so many entries has. Settings and counts that [`write()`] refuses
     /// have a length too, and one past all numbers is the highest.
     pub fn index_len(self, entries: usize) -> usize {
         let full = 4096 / self.entry_len();

@@ -4,12 +4,15 @@
 //! Rust's own terms. What the library refuses comes back as a [`Refusal`].
 
 mod answer;
+pub mod chain;
+pub mod encoding;
 pub mod envelope;
 mod ffi;
 pub mod index;
 mod key;
 mod md5;
 pub mod refusal;
+pub mod root;
 
 pub use key::Key;
 pub use md5::{Md5, md5};

@@ -7,15 +7,15 @@ mod random;
 
 use std::fmt;
 
-use compare::{Context, in_library_terms, refusal_at};
+use compare::{Context, in_library_entry, in_library_terms, refusal_at};
 use dwarnizza::index::{Entry, Lookup, Page, Slot, bound, lookup};
 use dwarnizza::{Refusal, refusal};
 use forge::{
-    COUNT, FOOTER_HASH, Fault, HASH_LENGTH, IndexFile, VERSION, all_settings, counted_list, flip,
-    keys, neighbour_lists, random_list, settings, spoil,
+    COUNT, FOOTER_HASH, Fault, HASH_LENGTH, IndexFile, VERSION, all_settings, beside, counted_list,
+    flip, keys, neighbour_lists, random_list, settings, spoil,
 };
 use random::Random;
-use second::index::{FOOTER, Found, Index, MOST_ENTRIES, Settings};
+use second::index::{FOOTER, Index, MOST_ENTRIES, Settings};
 
 /// What a lookup gives.
 type Answer = Result<Lookup, Refusal>;
@@ -27,16 +27,6 @@ fn absent(compared: u32) -> Answer {
 /// The refusals of a lookup name no place.
 fn refused(number: u32) -> Refusal {
     refusal_at(number, 0)
-}
-
-fn in_library_entry(found: Found, compared: u32) -> Entry {
-    Entry {
-        page: Page(found.page as u32),
-        slot: Slot(found.slot as u32),
-        size: found.size,
-        location: found.location,
-        compared,
-    }
 }
 
 /// The lookup by the second program.
@@ -83,15 +73,6 @@ fn compare_checked(file: &[u8], key: &[u8]) -> Lookup {
     assert_eq!(answer, plain_reading(file, key, compared));
     assert!(compared <= bound(file).expect("the index is good"));
     answer
-}
-
-/// The key so many above this one, all around.
-fn beside(key: &[u8], step: i128) -> Vec<u8> {
-    let mut wide = [0; 16];
-    let start = wide.len() - key.len();
-    wide[start..].copy_from_slice(key);
-    let number = u128::from_be_bytes(wide).wrapping_add_signed(step);
-    number.to_be_bytes()[start..].to_vec()
 }
 
 /// A key of this number.

@@ -1,6 +1,7 @@
 //! BLTE envelopes of plain chunks.
 
 use crate::md5;
+use crate::number::big_endian;
 use crate::refusal::{self, Refusal};
 
 /// What an envelope starts with.
@@ -105,7 +106,7 @@ impl<'a> Envelope<'a> {
         if file.len() < 8 || file[..4] != MAGIC {
             return Err(refusal::NOT_AN_ENVELOPE);
         }
-        match number(&file[4..8]) {
+        match big_endian(&file[4..8]) as usize {
             0 => Self::read_single(file),
             header_size => Self::read_table(file, header_size),
         }
@@ -128,7 +129,7 @@ impl<'a> Envelope<'a> {
             .filter(|(header, _)| header.len() >= BEFORE_ROWS)
             .ok_or(refusal::ENVELOPE_HEADER)?;
         let (rows, partial) = header[BEFORE_ROWS..].as_chunks::<ROW>();
-        let count = number(&header[9..12]);
+        let count = big_endian(&header[9..12]) as usize;
         if header[8] != FLAGS || count == 0 || rows.len() != count || !partial.is_empty() {
             return Err(refusal::ENVELOPE_HEADER);
         }
@@ -157,8 +158,8 @@ impl Row {
         let mut hash = [0; 16];
         hash.copy_from_slice(&bytes[8..]);
         Self {
-            encoded_size: number(&bytes[..4]),
-            decoded_size: number(&bytes[4..8]),
+            encoded_size: big_endian(&bytes[..4]) as usize,
+            decoded_size: big_endian(&bytes[4..8]) as usize,
             hash,
         }
     }
@@ -183,11 +184,4 @@ impl<'a> Chunk<'a> {
         }
         Ok(content)
     }
-}
-
-/// The number that big-endian bytes are.
-fn number(bytes: &[u8]) -> usize {
-    bytes
-        .iter()
-        .fold(0, |number, &byte| number << 8 | usize::from(byte))
 }

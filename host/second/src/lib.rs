@@ -5,9 +5,13 @@
 
 #![forbid(unsafe_code)]
 
+pub mod chain;
+pub mod encoding;
 pub mod envelope;
 pub mod index;
 pub mod key;
 pub mod md5;
 pub mod md5_suite;
+mod number;
 pub mod refusal;
+pub mod root;

@@ -97,6 +97,63 @@ pub const CONTENT_OUTPUT_TOO_SHORT: Refusal = refusal(26);
 /// Envelope key not the one given.
 pub const ENVELOPE_KEY: Refusal = refusal(27);
 
+/// Under 22 bytes, or not EN.
+pub const NOT_AN_ENCODING_FILE: Refusal = refusal(30);
+
+/// A header field of an encoding file wrong.
+pub const ENCODING_HEADER: Refusal = refusal(31);
+
+/// Parts of an encoding file run past its end.
+pub const PARTS_PAST_END: Refusal = refusal(32);
+
+/// Last spec not closed.
+pub const LAST_SPEC: Refusal = refusal(33);
+
+/// Page hash of an encoding file wrong.
+pub fn encoding_page_hash(page: usize) -> Refusal {
+    refusal_at(34, page)
+}
+
+/// Entry over the page's end.
+pub fn entry_over_page_end(page: usize) -> Refusal {
+    refusal_at(35, page)
+}
+
+/// Key of an encoding file not above the one before.
+pub fn encoding_order(page: usize) -> Refusal {
+    refusal_at(36, page)
+}
+
+/// Stored first key wrong, or a page without an entry.
+pub fn first_key(page: usize) -> Refusal {
+    refusal_at(37, page)
+}
+
+/// Spec number past the table.
+pub const SPEC_NUMBER: Refusal = refusal(38);
+
+/// Sought key not of the encoding file's key size.
+pub const ENCODING_KEY_LENGTH: Refusal = refusal(39);
+
+/// Block of a root file cut.
+pub fn block_cut(offset: usize) -> Refusal {
+    refusal_at(40, offset)
+}
+
+/// Id outside its range.
+pub fn id_range(offset: usize) -> Refusal {
+    refusal_at(41, offset)
+}
+
+/// Header size of a root file from 16 to 19.
+pub const ROOT_HEADER_SIZE: Refusal = refusal(42);
+
+/// Header of a root file cut.
+pub const ROOT_HEADER_CUT: Refusal = refusal(43);
+
+/// Root version 4.
+pub const ROOT_VERSION: Refusal = refusal(44);
+
 /// More than 2^48 bytes hashed.
 pub const TOO_MUCH_HASHED: Refusal = refusal(50);
 

@@ -1,6 +1,6 @@
 //! The lookup of a key, and the bound of its comparisons.
 
-use crate::answer::{Search, answered, searched};
+use crate::answer::{Search, answered, number, searched};
 use crate::ffi;
 use crate::refusal::Refusal;
 
@@ -50,6 +50,18 @@ pub struct Entry {
 }
 
 impl Entry {
+    /// The entry that an answer names.
+    pub(crate) fn from_words(words: [u64; 8]) -> Self {
+        let [page, slot, size, location, compared, ..] = words;
+        Self {
+            page: Page(number(page)),
+            slot: Slot(number(slot)),
+            size: number(size),
+            location,
+            compared: number(compared),
+        }
+    }
+
     /// The location as an archive number and an offset in that archive, which is what it holds
     /// where the index has offset width 6.
     pub fn archive_and_offset(self) -> (u16, u32) {
@@ -109,13 +121,7 @@ pub fn lookup(index: &[u8], key: &[u8]) -> Result<Lookup, Refusal> {
         }
     })?;
     Ok(match search {
-        Search::Found([page, slot, size, location, compared, ..]) => Lookup::Found(Entry {
-            page: Page(number(page)),
-            slot: Slot(number(slot)),
-            size: number(size),
-            location,
-            compared: number(compared),
-        }),
+        Search::Found(words) => Lookup::Found(Entry::from_words(words)),
         Search::Absent([.., compared, _, _, _]) => Lookup::Absent {
             compared: number(compared),
         },
@@ -132,10 +138,6 @@ pub fn bound(index: &[u8]) -> Result<u32, Refusal> {
         unsafe { ffi::dwarnizza_index_bound(index.as_ptr(), index.len(), answer) }
     })?;
     Ok(number(bound))
-}
-
-fn number(word: u64) -> u32 {
-    u32::try_from(word).expect("it has 32 bits")
 }
 
 #[cfg(test)]

@@ -6,7 +6,7 @@ use std::fmt::{self, Debug};
 use std::thread;
 
 use dwarnizza::Refusal;
-use dwarnizza::index::Settings;
+use dwarnizza::index::{Entry, Page, Settings, Slot};
 
 use crate::random::Random;
 
@@ -35,6 +35,17 @@ pub fn in_library_settings(settings: second::index::Settings) -> Settings {
         version,
         offset_width,
         key_length,
+    }
+}
+
+/// An entry that the second program found, as the library has it.
+pub fn in_library_entry(found: second::index::Found, compared: u32) -> Entry {
+    Entry {
+        page: Page(found.page as u32),
+        slot: Slot(found.slot as u32),
+        size: found.size,
+        location: found.location,
+        compared,
     }
 }
 

@@ -1,16 +1,54 @@
-//! Archive indexes for tests: good ones, and ones with chosen faults.
+//! Files for tests: good ones, and ones with chosen faults. Archive indexes here, the others in
+//! their modules.
 
 #![allow(dead_code, unused_imports)] // Each test uses a part of it.
 
+pub mod build;
+pub mod encoding;
+pub mod root;
 mod spoil;
 
 pub use spoil::{for_spoilt_files, spoil};
 
 use std::ops::Range;
 
+use crate::compare::Context;
 use crate::random::Random;
 use second::index::{FOOTER, PAGE, Settings};
 use second::md5;
+
+/// The name of a kind of files, and what makes a file of it from a good one.
+pub type FileKind<F> = (&'static str, fn(&mut Random, F) -> Vec<u8>);
+
+/// Makes a file of one of these kinds from a good one, and names the kind.
+pub fn of_random_kind<F: Clone>(
+    random: &mut Random,
+    kinds: &[FileKind<F>],
+    good: &F,
+) -> (&'static str, Vec<u8>) {
+    let (name, make) = kinds[random.up_to(kinds.len() - 1)];
+    (name, make(random, good.clone()))
+}
+
+/// Goes through so many files of these kinds, some from each good one.
+pub fn for_files_of<F: Clone>(
+    kinds: &[FileKind<F>],
+    files: u64,
+    make_good: impl Fn(&mut Random) -> F,
+    mut each: impl FnMut(&mut Random, &F, &[u8]),
+) {
+    const FROM_EACH: u64 = 12;
+
+    let mut random = Random::new();
+    for first in (0..files).step_by(FROM_EACH as usize) {
+        let good = make_good(&mut random);
+        for number in first..first + FROM_EACH {
+            let (kind, file) = of_random_kind(&mut random, kinds, &good);
+            let _context = Context { number, kind };
+            each(&mut random, &good, &file);
+        }
+    }
+}
 
 // Where the fields stand in the footer.
 pub const VERSION: usize = 8;
@@ -267,21 +305,20 @@ pub fn neighbour_lists(settings: Settings) -> impl Iterator<Item = Vec<u8>> {
 /// A list of random entries whose keys rise: there must be so many keys.
 pub fn random_list(random: &mut Random, settings: Settings, entries: usize) -> Vec<u8> {
     let mut list = Vec::with_capacity(entries * settings.entry_len());
-    for key in rising_keys(random, settings, entries) {
-        let key = key.to_be_bytes();
-        list.extend(&key[key.len() - settings.key_len()..]);
+    for key in rising_keys(random, settings.key_len(), entries) {
+        list.extend(key);
         list.extend(random.bytes(settings.entry_len() - settings.key_len()));
     }
     list
 }
 
-/// So many keys as numbers: anything between all close together and spread over all numbers, and
-/// now and then from zero.
-fn rising_keys(random: &mut Random, settings: Settings, count: usize) -> Vec<u128> {
+/// So many keys of this length: anything between all close together and spread over all keys, and
+/// now and then from zero. There must be so many.
+pub fn rising_keys(random: &mut Random, length: usize, count: usize) -> Vec<Vec<u8>> {
     let Some(others) = (count as u128).checked_sub(1) else {
         return Vec::new();
     };
-    let bits = 8 * u32::from(settings.key_length);
+    let bits = 8 * length as u32;
     let highest = u128::MAX >> (u128::BITS - bits);
     let room = highest.checked_sub(others).expect("there are so many keys");
     let gap = (room / (others + 1)) >> random.up_to(bits as usize - 1);
@@ -290,7 +327,10 @@ fn rising_keys(random: &mut Random, settings: Settings, count: usize) -> Vec<u12
         _ => wide_up_to(random, room - gap * (others + 1)),
     };
     (0..=others)
-        .map(|number| first + number * gap + number + wide_up_to(random, gap))
+        .map(|number| {
+            let key = first + number * gap + number + wide_up_to(random, gap);
+            key.to_be_bytes()[16 - length..].to_vec()
+        })
         .collect()
 }
 
@@ -301,6 +341,15 @@ fn wide_up_to(random: &mut Random, most: u128) -> u128 {
         Some(count) => number % count,
         None => number,
     }
+}
+
+/// The key so many above this one, all around.
+pub fn beside(key: &[u8], step: i128) -> Vec<u8> {
+    let mut wide = [0; 16];
+    let start = wide.len() - key.len();
+    wide[start..].copy_from_slice(key);
+    let number = u128::from_be_bytes(wide).wrapping_add_signed(step);
+    number.to_be_bytes()[start..].to_vec()
 }
 
 /// The key before this one; the lowest stays.

@@ -2,14 +2,13 @@
 
 use second::index::{FOOTER, MOST_ENTRIES, PAGE};
 
-use super::{FOOTER_HASH, Fault, HASH_LENGTH, IndexFile, VERSION, flip};
-use crate::compare::Context;
+use super::{
+    FOOTER_HASH, Fault, FileKind, HASH_LENGTH, IndexFile, VERSION, flip, for_files_of,
+    of_random_kind,
+};
 use crate::random::Random;
 
-/// The name of a kind, and what makes a file of it from a good one.
-type Kind = (&'static str, fn(&mut Random, IndexFile) -> Vec<u8>);
-
-const KINDS: [Kind; 15] = [
+const KINDS: [FileKind<IndexFile>; 15] = [
     ("good", good),
     ("another contents hash", another_contents_hash),
     ("bytes flipped anywhere", flipped),
@@ -29,23 +28,17 @@ const KINDS: [Kind; 15] = [
 
 /// Makes a file of a random kind from a good one, and names the kind.
 pub fn spoil(random: &mut Random, good: &IndexFile) -> (&'static str, Vec<u8>) {
-    let (name, make) = KINDS[random.up_to(KINDS.len() - 1)];
-    (name, make(random, good.clone()))
+    of_random_kind(random, &KINDS, good)
 }
 
-/// Goes through so many files of random kinds, some from each good one.
+/// Goes through so many files of random kinds.
 pub fn for_spoilt_files(files: u64, mut each: impl FnMut(&mut Random, &[u8])) {
-    const FROM_EACH: u64 = 12;
-
-    let mut random = Random::new();
-    for first in (0..files).step_by(FROM_EACH as usize) {
-        let good = IndexFile::random_layout(&mut random);
-        for number in first..first + FROM_EACH {
-            let (kind, file) = spoil(&mut random, &good);
-            let _context = Context { number, kind };
-            each(&mut random, &file);
-        }
-    }
+    for_files_of(
+        &KINDS,
+        files,
+        IndexFile::random_layout,
+        |random, _, file| each(random, file),
+    );
 }
 
 fn good(_: &mut Random, file: IndexFile) -> Vec<u8> {

@@ -2,8 +2,8 @@
 
 use std::fmt::{self, Write};
 
-use super::lookup::big_endian;
 use super::{Index, SIZE_WIDTH, Settings, check};
+use crate::number::big_endian;
 use crate::refusal::{self, Refusal};
 
 /// The most bytes of input that are listed.

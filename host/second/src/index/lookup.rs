@@ -1,6 +1,7 @@
 //! The lookup by the halving rule, the bound of its comparisons, and the plain reading.
 
 use super::{Index, SIZE_WIDTH};
+use crate::number::big_endian;
 use crate::refusal::{self, Refusal};
 
 /// Where a key was found, and what its entry says.
@@ -107,12 +108,6 @@ fn first_not_below(keys: usize, mut is_below: impl FnMut(usize) -> bool) -> usiz
         }
     }
     start
-}
-
-pub fn big_endian(bytes: &[u8]) -> u64 {
-    bytes
-        .iter()
-        .fold(0, |number, &byte| number << 8 | u64::from(byte))
 }
 
 /// The binary digits of a number: the least d with the number below 2^d.

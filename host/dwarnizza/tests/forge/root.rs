@@ -1,0 +1,364 @@
+//! Root files.
+
+use dwarnizza::{Refusal, refusal};
+use second::root::{BlockParts, Header, MAGICS, Record, write};
+
+use super::{FileKind, flip};
+use crate::compare::refusal_at;
+use crate::random::Random;
+
+/// The content flag that drops name hashes where there is a magic.
+pub const NO_NAME_HASHES: u32 = 1 << 13;
+
+/// The first id of the upper half of the range.
+const MIDDLE: i64 = 1 << 31;
+
+/// A file with the parts that it was made of.
+#[derive(Clone)]
+pub struct RootFile {
+    pub header: Option<Header>,
+    pub blocks: Vec<BlockParts>,
+    pub bytes: Vec<u8>,
+}
+
+/// A fault of the block of this number, in the order in which they are judged.
+#[derive(Clone, Copy, Debug, PartialEq, Eq, PartialOrd, Ord)]
+pub enum Fault {
+    /// 40.
+    Cut,
+    /// 41; the block has a record.
+    Id,
+}
+
+impl RootFile {
+    pub fn new(header: Option<Header>, blocks: Vec<BlockParts>) -> Self {
+        let bytes = write(header, &blocks);
+        Self {
+            header,
+            blocks,
+            bytes,
+        }
+    }
+
+    /// A good file of any layout.
+    pub fn random(random: &mut Random) -> Self {
+        let header = random_header(random);
+        let most = [1, 3, 3, 10][random.up_to(3)];
+        let blocks = (0..random.up_to(most)).map(|_| random_block(random));
+        Self::new(header, blocks.collect())
+    }
+
+    /// Where a block starts; with the number of all blocks, where the last ends.
+    pub fn place(&self, block: usize) -> usize {
+        write(self.header, &self.blocks[..block]).len()
+    }
+
+    /// How many bytes of a block stand before its deltas.
+    fn block_header(&self) -> usize {
+        match self.header {
+            None => 12,
+            Some(_) => 17,
+        }
+    }
+
+    /// Where a record's delta stands.
+    pub fn delta(&self, block: usize, record: usize) -> usize {
+        self.place(block) + self.block_header() + 4 * record
+    }
+
+    /// Where a record's key stands.
+    pub fn key(&self, block: usize, record: usize) -> usize {
+        let first = self.delta(block, self.blocks[block].records.len());
+        match self.header {
+            None => first + 24 * record,
+            Some(_) => first + 16 * record,
+        }
+    }
+
+    /// The block and the number of each record in file order.
+    pub fn records(&self) -> impl Iterator<Item = (usize, usize)> {
+        let counts = self.blocks.iter().map(|block| block.records.len());
+        counts
+            .enumerate()
+            .flat_map(|(block, count)| (0..count).map(move |record| (block, record)))
+    }
+
+    /// The id of a record, which is a good one.
+    pub fn id(&self, block: usize, record: usize) -> u32 {
+        let deltas = self.blocks[block].records[..=record].iter();
+        let sum: i64 = deltas.map(|record| i64::from(record.delta)).sum();
+        u32::try_from(sum + record as i64).expect("the ids are in their range")
+    }
+
+    /// An id of the file, which is a good one, one beside it, at an end of the range, or any.
+    pub fn any_id(&self, random: &mut Random) -> u32 {
+        let records: Vec<_> = self.records().collect();
+        let id = match records.len() {
+            0 => 0,
+            count => {
+                let (block, record) = records[random.up_to(count - 1)];
+                self.id(block, record)
+            }
+        };
+        match random.up_to(7) {
+            0 => id.wrapping_add(1),
+            1 => id.wrapping_sub(1),
+            2 => [0, u32::MAX, random.word() as u32][random.up_to(2)],
+            _ => id,
+        }
+    }
+
+    /// What a file with this fault first is refused with.
+    pub fn refusal(&self, block: usize, fault: Fault) -> Refusal {
+        let number = match fault {
+            Fault::Cut => refusal::BLOCK_CUT,
+            Fault::Id => refusal::ID_RANGE,
+        };
+        refusal_at(number, self.place(block))
+    }
+
+    /// Puts a fault into a block of a good file. Other blocks stay as they are.
+    pub fn put_fault(&mut self, random: &mut Random, block: usize, fault: Fault) {
+        match fault {
+            Fault::Cut => {
+                // So many records that they end past the file, or all that there could be.
+                let at = self.place(block);
+                let past = (self.bytes.len() - at) as u32 / 20 + 1;
+                let count = [past, past + random.up_to(100) as u32, 1 << 31, u32::MAX];
+                self.put(at, count[random.up_to(3)]);
+            }
+            Fault::Id => {
+                let record = random.up_to(self.blocks[block].records.len() - 1);
+                let next = match record {
+                    0 => 0,
+                    _ => i64::from(self.id(block, record - 1)) + 1,
+                };
+                // From the middle a delta reaches neither end of the range.
+                let (record, delta) = match next {
+                    MIDDLE => (0, -1),
+                    0..MIDDLE => (record, -next - 1),
+                    _ => (record, 2 * MIDDLE - next),
+                };
+                self.put(self.delta(block, record), delta as u32);
+            }
+        }
+    }
+
+    /// Puts a number in four bytes.
+    fn put(&mut self, at: usize, number: u32) {
+        self.bytes[at..at + 4].copy_from_slice(&number.to_le_bytes());
+    }
+}
+
+/// None, or either magic with a short header or a good long one.
+fn random_header(random: &mut Random) -> Option<Header> {
+    let (a, b) = match random.up_to(4) {
+        0 | 1 => return None,
+        2 => (20 + random.up_to(79), 2 + random.up_to(1)),
+        3 => (random.up_to(15), random.up_to(5)),
+        _ => (
+            [16 + random.up_to(83), 100, 1 << 31][random.up_to(2)],
+            [0, 1, 5, 1 << 24][random.up_to(3)],
+        ),
+    };
+    Some(Header {
+        magic: MAGICS[random.up_to(1)],
+        a: a as u32,
+        b: b as u32,
+    })
+}
+
+/// A block of few records, or of none.
+fn random_block(random: &mut Random) -> BlockParts {
+    let most = [0, 2, 6, 30][random.up_to(3)];
+    let mut next = 0;
+    let records = (0..random.up_to(most)).map(|_| {
+        let delta = random_delta(random, next);
+        next += i64::from(delta) + 1;
+        Record {
+            delta,
+            key: random.array(),
+            name_hash: random.array(),
+        }
+    });
+    let records = records.collect();
+    BlockParts {
+        records,
+        locale: random_flags(random),
+        content: random_flags(random),
+        unknown: random.array(),
+    }
+}
+
+/// A delta that leads from the number behind the id before to an id near it, at an end of the
+/// range, or anywhere.
+fn random_delta(random: &mut Random, next: i64) -> i32 {
+    let id = match random.up_to(9) {
+        0 => 0,
+        1 => u32::MAX.into(),
+        2 => i32::MAX.into(),
+        3 => i64::from(random.word() as u32),
+        4 => next - 1,
+        5 => next - random.up_to(20) as i64,
+        6 => next + random.up_to(20) as i64,
+        _ => next,
+    };
+    let delta = id.clamp(0, u32::MAX.into()) - next;
+    delta.clamp(i32::MIN.into(), i32::MAX.into()) as i32
+}
+
+/// None, one, all or any flags; often that of name hashes.
+pub fn random_flags(random: &mut Random) -> u32 {
+    let flags = match random.up_to(4) {
+        0 => 0,
+        1 => u32::MAX,
+        2 => random.word() as u32,
+        _ => 1 << random.up_to(31),
+    };
+    match random.up_to(3) {
+        0 => flags ^ NO_NAME_HASHES,
+        _ => flags,
+    }
+}
+
+/// A mask of locales and one of unwanted content: often all and none.
+pub fn random_masks(random: &mut Random) -> (u32, u64) {
+    let locale = [u32::MAX, random_flags(random)][random.up_to(1)];
+    let unwanted = [0, 0, random_flags(random).into(), random.word()][random.up_to(3)];
+    (locale, unwanted)
+}
+
+/// All kinds of files.
+pub const KINDS: [FileKind<RootFile>; 11] = [
+    ("good", good),
+    ("bytes flipped anywhere", flipped),
+    ("one fault", one_fault),
+    ("two faults", two_faults),
+    ("another count", another_count),
+    ("another delta", another_delta),
+    ("other flags", other_flags),
+    ("other header", other_header),
+    ("cut", cut),
+    ("extended", extended),
+    ("random bytes", random_bytes),
+];
+
+fn good(_: &mut Random, file: RootFile) -> Vec<u8> {
+    file.bytes
+}
+
+fn flipped(random: &mut Random, mut file: RootFile) -> Vec<u8> {
+    for _ in 0..=random.up_to(2) {
+        if !file.bytes.is_empty() {
+            flip(random, &mut file.bytes);
+        }
+    }
+    file.bytes
+}
+
+/// A fault that the file can have, if it has a block.
+fn any_fault(random: &mut Random, file: &RootFile) -> Option<(usize, Fault)> {
+    let block = random.up_to(file.blocks.len().checked_sub(1)?);
+    let empty = file.blocks[block].records.is_empty();
+    match empty || random.up_to(1) == 0 {
+        true => Some((block, Fault::Cut)),
+        false => Some((block, Fault::Id)),
+    }
+}
+
+fn one_fault(random: &mut Random, mut file: RootFile) -> Vec<u8> {
+    if let Some((block, fault)) = any_fault(random, &file) {
+        file.put_fault(random, block, fault);
+    }
+    file.bytes
+}
+
+fn two_faults(random: &mut Random, file: RootFile) -> Vec<u8> {
+    let bytes = one_fault(random, file.clone());
+    one_fault(random, RootFile { bytes, ..file })
+}
+
+/// The first four bytes of a block.
+fn another_count(random: &mut Random, mut file: RootFile) -> Vec<u8> {
+    if let Some(last) = file.blocks.len().checked_sub(1) {
+        let block = random.up_to(last);
+        let count = file.blocks[block].records.len();
+        let near = (count as u32 + 1).saturating_sub(random.up_to(2) as u32);
+        let count = [near, random.up_to(40) as u32, random.word() as u32];
+        file.put(file.place(block), count[random.up_to(2)]);
+    }
+    file.bytes
+}
+
+fn another_delta(random: &mut Random, mut file: RootFile) -> Vec<u8> {
+    let records: Vec<_> = file.records().collect();
+    if let Some(last) = records.len().checked_sub(1) {
+        let (block, record) = records[random.up_to(last)];
+        let near = -3 + random.up_to(6) as i32;
+        let delta = [near as u32, random.word() as u32];
+        file.put(file.delta(block, record), delta[random.up_to(1)]);
+    }
+    file.bytes
+}
+
+/// Other flags in place of one of a block's two fields, so that name hashes may be missing or too
+/// many.
+fn other_flags(random: &mut Random, mut file: RootFile) -> Vec<u8> {
+    if let Some(last) = file.blocks.len().checked_sub(1) {
+        let at = file.place(random.up_to(last)) + 4 + 4 * random.up_to(1);
+        file.put(at, random_flags(random));
+    }
+    file.bytes
+}
+
+/// The same blocks behind another header, behind none, or behind one that says something else.
+fn other_header(random: &mut Random, mut file: RootFile) -> Vec<u8> {
+    let header = match random.up_to(2) {
+        0 => random_header(random),
+        _ => Some(Header {
+            magic: MAGICS[random.up_to(1)],
+            a: random.up_to(120) as u32,
+            b: random.up_to(5) as u32,
+        }),
+    };
+    let blocks = file.bytes.split_off(file.place(0));
+    let mut bytes = write(header, &[]);
+    if random.up_to(2) == 0 && bytes.len() >= 12 {
+        // As a long header may be: cut, or longer than it says.
+        bytes.resize(12 + random.up_to(90), 0xee);
+    }
+    bytes.extend(blocks);
+    bytes
+}
+
+fn cut(random: &mut Random, file: RootFile) -> Vec<u8> {
+    let mut bytes = file.bytes;
+    let length = bytes.len();
+    let least = length - [1, 24, length][random.up_to(2)].min(length);
+    bytes.truncate(least + random.up_to(length - least));
+    bytes
+}
+
+fn extended(random: &mut Random, file: RootFile) -> Vec<u8> {
+    let mut bytes = file.bytes;
+    let more = 1 + random.up_to(50);
+    match random.up_to(1) {
+        0 => bytes.resize(bytes.len() + more, 0),
+        _ => bytes.extend(random.bytes(more)),
+    }
+    bytes
+}
+
+/// Random bytes, mostly small ones so that counts are too, and often with a magic in front.
+fn random_bytes(random: &mut Random, _: RootFile) -> Vec<u8> {
+    let length = random.up_to(200);
+    let mut bytes = random.bytes(length);
+    if random.up_to(3) > 0 {
+        for byte in &mut bytes {
+            *byte = [0, 0, 0, 0, 1, 2, *byte][random.up_to(6)];
+        }
+    }
+    let kept = [0, 4][random.up_to(1)].min(length);
+    bytes[..kept].copy_from_slice(&MAGICS[random.up_to(1)][..kept]);
+    bytes
+}

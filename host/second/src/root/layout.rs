@@ -1,0 +1,83 @@
+//! The start of a root file, and how its blocks are laid out.
+
+use super::{KEY, NAME_HASH, array};
+use crate::refusal::{self, Refusal};
+
+/// What a file with a header starts with: either.
+pub const MAGICS: [[u8; 4]; 2] = [*b"MFST", *b"TSFM"];
+
+/// How many bytes a short header has: the magic and two numbers.
+const SHORT_HEADER: usize = 12;
+
+/// The least size of a long header that holds all its fields.
+const LEAST_LONG_HEADER: u32 = 20;
+
+/// The version that is refused.
+const REFUSED_VERSION: u32 = 4;
+
+/// How the blocks of a file are laid out. All start with the count, and their deltas follow the
+/// header.
+#[derive(Clone, Copy, Debug)]
+pub struct Layout {
+    /// How many bytes stand before the deltas.
+    pub block_header: usize,
+    /// Where the content flags stand in a block.
+    pub content_at: usize,
+    /// Where the locale flags stand.
+    pub locale_at: usize,
+    /// How far a key is from the next.
+    pub key_step: usize,
+    /// The content flags of which each drops the name hashes.
+    pub no_name_hashes: u32,
+}
+
+/// Without a magic: count, content flags, locale flags; each key is followed by its name hash.
+const VERSION_1: Layout = Layout {
+    block_header: 12,
+    content_at: 4,
+    locale_at: 8,
+    key_step: KEY + NAME_HASH,
+    no_name_hashes: 0,
+};
+
+/// With one: count, locale flags, content flags, 4 and 1 unknown bytes; the name hashes follow all
+/// keys.
+const OTHERS: Layout = Layout {
+    block_header: 17,
+    content_at: 8,
+    locale_at: 4,
+    key_step: KEY,
+    no_name_hashes: 1 << 13,
+};
+
+impl Layout {
+    /// Where the first block of a file stands, and the layout; refuses with 43, 44, 42, 43.
+    pub fn of(file: &[u8]) -> Result<(usize, Self), Refusal> {
+        if !MAGICS.iter().any(|magic| file.starts_with(magic)) {
+            return Ok((0, VERSION_1));
+        }
+        if file.len() < SHORT_HEADER {
+            return Err(refusal::ROOT_HEADER_CUT);
+        }
+        let a = u32::from_le_bytes(array(&file[4..]));
+        let b = u32::from_le_bytes(array(&file[8..]));
+        if !is_long(a, b) {
+            return Ok((SHORT_HEADER, OTHERS));
+        }
+        if b == REFUSED_VERSION {
+            return Err(refusal::ROOT_VERSION);
+        }
+        if a < LEAST_LONG_HEADER {
+            return Err(refusal::ROOT_HEADER_SIZE);
+        }
+        if file.len() < a as usize {
+            return Err(refusal::ROOT_HEADER_CUT);
+        }
+        Ok((a as usize, OTHERS))
+    }
+}
+
+/// Whether these numbers after the magic are the size and the version of a long header.
+pub fn is_long(a: u32, b: u32) -> bool {
+    matches!(a, 16..100) && matches!(b, 2..=4)
+}

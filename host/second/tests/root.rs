@@ -1,0 +1,242 @@
+//! Root files by the second program.
+
+use second::refusal::{self, Refusal};
+use second::root::{BlockParts, Found, Header, MAGICS, Record, check, find, write};
+
+const ALL: u32 = u32::MAX;
+const NO_NAME_HASHES: u32 = 1 << 13;
+
+/// A block of records with these deltas. Each key is of one byte, which counts up from this one.
+fn block(locale: u32, content: u32, first_key: u8, deltas: &[i32]) -> BlockParts {
+    let records = (first_key..).zip(deltas).map(|(key, &delta)| Record {
+        delta,
+        key: [key; 16],
+        name_hash: [0xee; 8],
+    });
+    BlockParts {
+        locale,
+        content,
+        unknown: [0xdd; 5],
+        records: records.collect(),
+    }
+}
+
+/// The header of a file with a magic and these numbers.
+fn header(a: u32, b: u32) -> Option<Header> {
+    let magic = MAGICS[0];
+    Some(Header { magic, a, b })
+}
+
+/// The ids of a block with these deltas, found by their keys; the refusal's number where it is
+/// refused.
+fn ids(deltas: &[i32]) -> Result<Vec<u32>, u32> {
+    let file = write(None, &[block(1, 0, 0, deltas)]);
+    check(&file).map_err(|refusal| refusal.number)?;
+    let found = |id| find(&file, id, 1, 0).unwrap();
+    let near = (0..20)
+        .chain(i32::MAX as u32 - 2..=i32::MAX as u32 + 2)
+        .chain(u32::MAX - 2..=u32::MAX);
+    Ok(near.filter(|&id| found(id).is_some()).collect())
+}
+
+#[test]
+fn m5_to_m8() {
+    assert_eq!(ids(&[5, 0, 0]), Ok(vec![5, 6, 7]));
+    assert_eq!(ids(&[5, -1]), Ok(vec![5]));
+    assert_eq!(ids(&[0, -2]), Err(41));
+    assert_eq!(ids(&[-1]), Err(41));
+    assert_eq!(
+        ids(&[i32::MAX, i32::MAX]),
+        Ok(vec![i32::MAX as u32, u32::MAX])
+    );
+    assert_eq!(ids(&[i32::MAX, i32::MAX, 0]), Err(41));
+    // Back from the highest, and to 0 from 1.
+    assert_eq!(
+        ids(&[i32::MAX, i32::MAX, -1]),
+        Ok(vec![i32::MAX as u32, u32::MAX])
+    );
+    assert_eq!(ids(&[1, -2, 0]), Ok(vec![0, 1]));
+    assert_eq!(ids(&[i32::MIN]), Err(41));
+    assert_eq!(ids(&[i32::MAX, i32::MIN]), Ok(vec![0, i32::MAX as u32]));
+    assert_eq!(ids(&[i32::MAX - 1, i32::MIN]), Err(41));
+}
+
+#[test]
+fn m10_headers() {
+    let blocks = [block(1, 0, 7, &[5])];
+    for b in [2, 3] {
+        for (a, start) in [(15, 12), (100, 12), (20, 20), (99, 99)] {
+            let file = write(header(a, b), &blocks);
+            let key = Found {
+                key: [7; 16],
+                place: start + 17 + 4,
+            };
+            assert_eq!(find(&file, 5, 1, 0), Ok(Some(key)));
+        }
+        for a in 16..20 {
+            let file = write(header(a, b), &blocks);
+            assert_eq!(check(&file), Err(refusal::ROOT_HEADER_SIZE));
+        }
+    }
+    for (a, b) in [
+        (16, 1),
+        (99, 5),
+        (20, 0),
+        (17, u32::MAX),
+        (15, 4),
+        (100, 4),
+        (0, 0),
+    ] {
+        let file = write(header(a, b), &blocks);
+        assert_eq!(find(&file, 5, 1, 0).unwrap().unwrap().place, 33);
+    }
+    for a in [16, 19, 20, 99] {
+        let file = write(header(a, 4), &blocks);
+        assert_eq!(check(&file), Err(refusal::ROOT_VERSION));
+        assert_eq!(check(&file[..12]), Err(refusal::ROOT_VERSION));
+    }
+}
+
+#[test]
+fn headers_that_are_cut() {
+    for magic in MAGICS {
+        let short = write(Some(Header { magic, a: 1, b: 1 }), &[]);
+        let long = write(Some(Header { magic, a: 24, b: 2 }), &[]);
+        assert_eq!((short.len(), long.len()), (12, 24));
+        assert_eq!(check(&short), Ok(()));
+        assert_eq!(check(&long), Ok(()));
+        for length in 4..12 {
+            assert_eq!(check(&short[..length]), Err(refusal::ROOT_HEADER_CUT));
+        }
+        for length in 4..24 {
+            assert_eq!(check(&long[..length]), Err(refusal::ROOT_HEADER_CUT));
+        }
+        // 42 goes before a header that is cut.
+        let small = write(Some(Header { magic, a: 19, b: 3 }), &[]);
+        assert_eq!(check(&small[..12]), Err(refusal::ROOT_HEADER_SIZE));
+        // A part of the magic is none.
+        for length in 1..4 {
+            assert_eq!(check(&magic[..length]), Err(refusal::block_cut(0)));
+        }
+    }
+    assert_eq!(check(&[]), Ok(()));
+}
+
+/// The blocks as they stand, byte by byte.
+#[test]
+fn layouts() {
+    let one = [block(0x0102, 0x0304, 7, &[5, -3])];
+    let keys = |separators: [&[u8]; 2]| {
+        let [first, second] = separators;
+        [&[7; 16], first, &[8; 16], second].concat()
+    };
+    let hashed = [&[0xee; 8][..]; 2];
+    let deltas = b"\x05\0\0\0\xfd\xff\xff\xff";
+    let version_1 = [
+        &b"\x02\0\0\0\x04\x03\0\0\x02\x01\0\0"[..],
+        deltas,
+        &keys(hashed),
+    ]
+    .concat();
+    assert_eq!(write(None, &one), version_1);
+    let others = [
+        &b"MFST\x01\0\0\0\x02\0\0\0\x02\0\0\0\x02\x01\0\0\x04\x03\0\0\xdd\xdd\xdd\xdd\xdd"[..],
+        deltas,
+        &keys([&[], &[0xee; 16]]),
+    ]
+    .concat();
+    assert_eq!(write(header(1, 2), &one), others);
+    let place = |file: &[u8], id| find(file, id, ALL, 0).unwrap().map(|found| found.place);
+    assert_eq!(
+        (place(&version_1, 5), place(&version_1, 3)),
+        (Some(20), Some(44))
+    );
+    assert_eq!((place(&others, 5), place(&others, 3)), (Some(37), Some(53)));
+
+    // Content bit 13 drops the name hashes, except in version 1.
+    let bare = [block(1, NO_NAME_HASHES, 7, &[5]), block(1, 0, 9, &[6])];
+    assert_eq!(place(&write(None, &bare), 6), Some(40 + 16));
+    let file = write(header(1, 1), &bare);
+    assert_eq!(file.len(), 12 + 37 + 45);
+    assert_eq!(place(&file, 6), Some(12 + 37 + 21));
+}
+
+#[test]
+fn blocks_that_are_cut() {
+    for (header, start) in [(None, 0), (header(1, 1), 12), (header(30, 3), 30)] {
+        let first = write(header, &[block(1, 0, 7, &[5, 0])]);
+        let two = write(header, &[block(1, 0, 7, &[5, 0]), block(1, 0, 8, &[])]);
+        for length in start + 1..two.len() {
+            let expected = match length {
+                _ if length == first.len() => Ok(()),
+                _ if length < first.len() => Err(refusal::block_cut(start)),
+                _ => Err(refusal::block_cut(first.len())),
+            };
+            assert_eq!(check(&two[..length]), expected);
+        }
+        assert_eq!(check(&two), Ok(()));
+        // The count is unsigned, and its size does not wrap.
+        for count in [3, 1 << 29, 1 << 30, 1 << 31, u32::MAX] {
+            let mut file = two.clone();
+            file[start..][..4].copy_from_slice(&count.to_le_bytes());
+            assert_eq!(check(&file), Err(refusal::block_cut(start)));
+        }
+    }
+}
+
+/// A block is judged whole before the next: first 40, then 41.
+#[test]
+fn blocks_in_order() {
+    let blocks = [
+        block(1, 0, 7, &[5]),
+        block(0, 0, 8, &[5, -7]),
+        block(1, 0, 9, &[1]),
+    ];
+    let mut file = write(None, &blocks);
+    let refused = |number, place| Err(Refusal { number, place });
+    assert_eq!(check(&file), refused(41, 40));
+    // Blocks that do not count, and blocks behind the wanted record, are checked too.
+    assert_eq!(find(&file, 5, 1, 0), Err(refusal::id_range(40)));
+    file.truncate(40 + 68 + 39);
+    assert_eq!(check(&file), refused(41, 40));
+    file.truncate(40 + 67);
+    assert_eq!(check(&file), refused(40, 40));
+    file[15] = 0x80;
+    assert_eq!(check(&file), refused(41, 0));
+}
+
+#[test]
+fn masks_and_the_first_match() {
+    let blocks = [
+        block(0, 0, 1, &[5]),
+        block(2, 1, 2, &[4, 0, -1, -1]),
+        block(2 | 4, 2, 6, &[5]),
+        block(4, 0, 7, &[5, 0]),
+    ];
+    for header in [None, header(1, 1), header(20, 2)] {
+        let file = write(header, &blocks);
+        let key = |id, locale, unwanted| {
+            let found = find(&file, id, locale, unwanted).unwrap();
+            found.map(|Found { key, place }| {
+                assert_eq!(file[place..place + 16], key);
+                key[0]
+            })
+        };
+        assert_eq!(key(5, ALL, 0), Some(3));
+        assert_eq!(key(5, ALL, 1), Some(6));
+        assert_eq!(key(5, ALL, 2), Some(3));
+        assert_eq!(key(5, ALL, 3), Some(7));
+        assert_eq!(key(5, 4, 0), Some(6));
+        assert_eq!(key(5, 4, 2), Some(7));
+        assert_eq!(key(5, 2, 3), None);
+        assert_eq!(key(5, 0, 0), None);
+        assert_eq!(key(5, 1 << 31, 0), None);
+        assert_eq!(key(5, ALL, u64::MAX), Some(7));
+        assert_eq!(key(5, ALL, !0 << 32), Some(3));
+        assert_eq!(key(4, ALL, 0), Some(2));
+        assert_eq!(key(6, ALL, 0), Some(8));
+        for absent in [0, 3, 7, u32::MAX] {
+            assert_eq!(key(absent, ALL, 0), None);
+        }
+    }
+}
