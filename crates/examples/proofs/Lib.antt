@@ -1,3 +1,8 @@
-pub mod Lookup
-pub mod KeyText
-pub mod Listing
+mod Laws
+mod Index
+mod Root
+mod KeyText
+mod Envelope
+mod Encoding
+pub mod Examples
+pub mod FiveDigits

@@ -1,7 +1,19 @@
 -- The inputs of the examples.
 use mathlib.Core.List.{List, [], _∷_, _++_}
-use Prim.Native.Nat.{ℕ}
-use lib.ListN.{replicate}
+use Prim.Native.Nat.{ℕ, _+_, _-_, _*_}
+use lib.IntN.{ℤ, pos, negsuc}
+use lib.ListN.{length, replicate}
+use Rattle.parts.specs.Part.{partsFrom}
+use Rattle.md5.specs.Message.{littleBytes}
+use Rattle.text.specs.Text.{ascii}
+use Rattle.writer.specs.declared.Settings.{Settings}
+use Rattle.root_layout.specs.Layout.{unknownSize, noNameHashes}
+use Rattle.root_layout.specs.Header.{shortHeader}
+use Rattle.root_block.specs.Ids.{modulus}
+use Rattle.root_block.specs.Block.{keySize}
+use Rattle.spec_table.specs.Specs.{runOf}
+
+-- ---- archive index
 
 -- An index of one entry 05, size 7 and location 9, at K 1 and W 4: the page, its last key, its hash, and the footer.
 abbrev pub one : List ℕ
@@ -14,3 +26,59 @@ one =
 -- An index of no entries.
 abbrev pub none : List ℕ
 none = 212 ∷ 29 ∷ 140 ∷ 217 ∷ 143 ∷ 0 ∷ 178 ∷ 4 ∷ 0 ∷ 0 ∷ 0 ∷ 4 ∷ 4 ∷ 4 ∷ 1 ∷ 8 ∷ 0 ∷ 0 ∷ 0 ∷ 0 ∷ 24 ∷ 251 ∷ 70 ∷ 41 ∷ 203 ∷ 57 ∷ 225 ∷ 42 ∷ []
+
+-- The settings K 16 and W 4, and a list of n entries, at most 256, whose keys rise.
+abbrev pub settings : Settings
+settings = record { version = 0; «offset_width» = 4; «key_length» = 16 }
+
+abbrev pub entry : ℕ → List ℕ
+entry i = replicate 15 0 ++ (i ∷ []) ++ replicate 8 0
+
+abbrev pub list : ℕ → List ℕ
+list n = partsFrom entry 0 n
+
+-- ---- root file
+
+-- A signed number in four bytes, lowest first.
+abbrev pub signedBytes : ℤ → List ℕ
+signedBytes (pos n) = littleBytes 4 n
+signedBytes (negsuc n) = littleBytes 4 (modulus - 1 - n)
+
+abbrev pub deltaBytes : List ℤ → List ℕ
+deltaBytes [] = []
+deltaBytes (d ∷ ds) = signedBytes d ++ deltaBytes ds
+
+-- A block of these deltas: locale flags 1, no name hashes; the unknown bytes and the keys are zeros.
+abbrev pub block : List ℤ → List ℕ
+block deltas =
+    littleBytes 4 (length deltas) ++ littleBytes 4 1 ++ littleBytes 4 noNameHashes ++ replicate unknownSize 0
+    ++ deltaBytes deltas
+    ++ replicate (keySize * length deltas) 0
+
+-- A root file with the numbers a and b = 2, and a block of these deltas at byte `start`.
+abbrev pub rootWith : (a start : ℕ) → List ℤ → List ℕ
+rootWith a start deltas =
+    ascii "MFST" ++ littleBytes 4 a ++ littleBytes 4 2 ++ replicate (start - shortHeader) 0 ++ block deltas
+
+-- With a header of 20 bytes.
+abbrev pub rootOf : List ℤ → List ℕ
+rootOf deltas = rootWith 20 20 deltas
+
+-- ---- envelope
+
+-- BLTE, size 0, N, A; and its key.
+abbrev pub envelope : List ℕ
+envelope = ascii "BLTE" ++ replicate 4 0 ++ ascii "NA"
+
+abbrev pub envelopeKey : List ℕ
+envelopeKey = 62 ∷ 118 ∷ 236 ∷ 113 ∷ 143 ∷ 102 ∷ 218 ∷ 129 ∷ 212 ∷ 227 ∷ 213 ∷ 211 ∷ 0 ∷ 38 ∷ 30 ∷ 20 ∷ []
+
+-- ---- encoding file
+
+-- An encoding file with the specs n and z: its header (key sizes 16, a page of 1 KB of each kind, spec size 4), the spec table,
+-- and zeros for the indexes and pages, which asking for a spec by its number does not judge.
+abbrev pub encodingFile : List ℕ
+encodingFile =
+    ascii "EN" ++ (1 ∷ 16 ∷ 16 ∷ 0 ∷ 1 ∷ 0 ∷ 1 ∷ 0 ∷ 0 ∷ 0 ∷ 1 ∷ 0 ∷ 0 ∷ 0 ∷ 1 ∷ 0 ∷ 0 ∷ 0 ∷ 0 ∷ 4 ∷ [])
+    ++ runOf (ascii "n" ∷ ascii "z" ∷ [])
+    ++ replicate (2 * (16 + 16 + 1024)) 0
