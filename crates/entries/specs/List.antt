@@ -1,4 +1,4 @@
--- Listing an index: the full check, then 13.
+-- Listing an index, by the full check, then 13: rules I15 and I19.
 use mathlib.Core.List.{List, [], _∷_}
 use Prim.Native.Nat.{ℕ}
 use lib.ListN.{length}

@@ -1,4 +1,4 @@
--- The header of an envelope s and where its chunks stand: document 01, "Envelope".
+-- The header of an envelope s and where its chunks stand: rules B1 to B5 and B8 to B10.
 use mathlib.Core.Bool.{Bool, not, _&&_, _||_, cond}
 use mathlib.Core.List.{List, [], _∷_}
 use Prim.Native.Nat.{ℕ, zero, suc, _+_, _-_, _*_}
@@ -13,7 +13,7 @@ use Rattle.envelope_header.specs.declared.Header.{Header}
 use Rattle.envelope_header.specs.declared.Opened.{Opened}
 use Rattle.envelope_header.specs.declared.Opened.the-variants.{Passed, Refused}
 
--- "BLTE", then the header size in four bytes.
+-- "BLTE", then the header size in four bytes (rule B1).
 abbrev pub magic : List ℕ
 magic = 66 ∷ 76 ∷ 84 ∷ 69 ∷ []
 
@@ -23,7 +23,7 @@ headerSizeAt = 4
 abbrev pub shortSize : ℕ
 shortSize = 8
 
--- Where the header size is not 0: the flags byte, 0x0F, then the chunk count in three bytes, then 24 bytes for each chunk.
+-- Where the header size is not 0: the flags byte, 0x0F, the chunk count in three bytes, then 24 bytes for each chunk (rule B3).
 abbrev pub flagsAt : ℕ
 flagsAt = 8
 
@@ -45,7 +45,7 @@ headerSize s = bigAt s headerSizeAt 4
 abbrev pub tableCount : List ℕ → ℕ
 tableCount s = bigAt s countAt 3
 
--- What the header says: the rows of the chunk table. Header size 0: no table, and the rest is one chunk.
+-- What the header says: the rows of the chunk table. Header size 0: no table, and the rest is one chunk (rule B2).
 unfoldable pub headerOf : List ℕ → Header
 headerOf s = record { rows = cond (eqb (headerSize s) 0) 0 (tableCount s) }
 
@@ -55,11 +55,11 @@ tabled h = not (eqb (h .rows) 0)
 unfoldable pub chunkCount : Header → ℕ
 chunkCount h = cond (tabled h) (h .rows) 1
 
--- The bytes of the header, after which the chunks stand.
+-- The bytes of the header, after which the chunks stand (rules B2, B3).
 unfoldable pub headerLength : Header → ℕ
 headerLength h = cond (tabled h) (tableAt + rowSize * h .rows) shortSize
 
--- The row of chunk i in the table: encoded size (4), decoded size (4), MD5 of the encoded chunk.
+-- The row of chunk i in the table: encoded size (4), decoded size (4), MD5 of the encoded chunk (rule B4).
 unfoldable pub rowAt : ℕ → ℕ
 rowAt i = tableAt + rowSize * i
 
@@ -72,19 +72,19 @@ decodedSize s i = bigAt s (rowAt i + 4) 4
 unfoldable pub chunkHash : List ℕ → ℕ → List ℕ
 chunkHash s i = partAt s (rowAt i + 8) 16
 
--- Where chunk i stands: after the header and the chunks before it.
+-- Where chunk i stands: after the header and the chunks before it (rule B5).
 unfoldable pub chunkAt : List ℕ → Header → ℕ → ℕ
 chunkAt s h zero = headerLength h
 chunkAt s h (suc i) = chunkAt s h i + encodedSize s h i
 
--- 20: under 8 bytes, or not BLTE.
+-- 20: under 8 bytes, or not BLTE (rule B8).
 unfoldable pub magicRight : List ℕ → Bool
 magicRight s = leb shortSize (length s) && sameBytes (partAt s 0 4) magic
 
 abbrev pub magicCheck : List ℕ → Check
 magicCheck s = refusedIf (not (magicRight s)) not-blte 0
 
--- 21: header size, flags or count wrong, no chunk, header past the end.
+-- 21: header size, flags or count wrong, no chunk, header past the end (rule B9).
 unfoldable pub headerRight : List ℕ → Bool
 headerRight s =
     eqb (headerSize s) 0
@@ -96,7 +96,7 @@ headerRight s =
 abbrev pub headerCheck : List ℕ → Check
 headerCheck s = refusedIf (not (headerRight s)) envelope-header 0
 
--- 22: an empty chunk, or sizes not adding up to the rest.
+-- 22: an empty chunk, or sizes not adding up to the rest (rule B10).
 unfoldable pub emptyCheck : List ℕ → Header → ℕ → Check
 emptyCheck s h i = refusedIf (eqb (encodedSize s h i) 0) chunk-sizes 0
 
@@ -106,7 +106,7 @@ sumCheck s h = refusedIf (not (eqb (chunkAt s h (chunkCount h)) (length s))) chu
 unfoldable pub sizesCheck : List ℕ → Header → Check
 sizesCheck s h = first (firstFrom (emptyCheck s h) 0 (chunkCount h)) (sumCheck s h)
 
--- 20, 21, 22.
+-- 20, 21, 22, in this order (rule B14).
 unfoldable pub opening : List ℕ → Check
 opening s = first (magicCheck s) (first (headerCheck s) (sizesCheck s (headerOf s)))
 

@@ -1,4 +1,4 @@
--- Numbers at an offset of a list of bytes, and numbers between two bounds.
+-- Numbers at an offset of a list of bytes, by rule G6, and numbers between two bounds.
 use mathlib.Core.Bool.{Bool, _&&_}
 use mathlib.Core.List.{List}
 use Prim.Native.Nat.{ℕ, zero, suc, _+_, _*_, _^_}

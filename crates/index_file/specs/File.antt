@@ -1,4 +1,4 @@
--- The bytes of an index that is written from a list of entries: document 01, "Archive index".
+-- The bytes of an index that is written from a list of entries: rules I7 to I9 and I22.
 use mathlib.Core.List.{List, _++_}
 use Prim.Native.Nat.{ℕ, _-_, _*_}
 use lib.ListN.{take, replicate}
@@ -8,15 +8,15 @@ use Rattle.index_layout.specs.declared.Layout.{Layout}
 use Rattle.index_layout.specs.Layout.{pageSize, hashLength, entrySize, onPage, entryNumber, pageOf}
 use Rattle.index_footer.specs.Footer.{footerWith}
 
--- Where slot i of page p stands in the list, which has nothing between its entries.
+-- Where slot i of page p stands in the list, which has nothing between its entries (rule I15).
 abbrev pub listAt : Layout → ℕ → ℕ → ℕ
 listAt l p i = entryNumber l p i * entrySize l
 
--- The entries of page p.
+-- The entries of page p (rule I7).
 abbrev pub entriesIn : List ℕ → Layout → ℕ → List ℕ
 entriesIn list l p = partAt list (listAt l p 0) (onPage l p * entrySize l)
 
--- A page: its entries, and zeros after them.
+-- A page: its entries, and zeros after them (rule I8).
 unfoldable pub pageIn : List ℕ → Layout → ℕ → List ℕ
 pageIn list l p = entriesIn list l p ++ replicate (pageSize - onPage l p * entrySize l) 0
 
@@ -28,7 +28,7 @@ lastKeyIn list l p = partAt list (listAt l p (onPage l p - 1)) (l .«key_length�
 unfoldable pub pageHashIn : List ℕ → Layout → ℕ → List ℕ
 pageHashIn list l p = take hashLength (md5 (pageIn list l p))
 
--- All pages; the last key of each; the hash of each.
+-- All pages; the last key of each; the hash of each (rule I9).
 unfoldable pub pages : List ℕ → Layout → List ℕ
 pages list l = partsFrom (pageIn list l) 0 (l .pages)
 
@@ -42,7 +42,7 @@ pageHashes list l = partsFrom (pageHashIn list l) 0 (l .pages)
 unfoldable pub hashesOf : List ℕ → Layout → List ℕ
 hashesOf s l = partsFrom (λ p. take hashLength (md5 (pageOf s p))) 0 (l .pages)
 
--- The whole file.
+-- The whole file (rule I22).
 unfoldable pub fileOf : List ℕ → Layout → List ℕ
 fileOf list l =
     pages list l ++ lastKeys list l ++ pageHashes list l ++ footerWith l (lastKeys list l ++ pageHashes list l)

@@ -1,4 +1,4 @@
--- The entries of an index: document 01, "Archive index".
+-- The entries of an index: rules I5, I13 and I15.
 use mathlib.Core.List.{List}
 use Prim.Native.Nat.{ℕ, _+_, _*_, _/_, _%_, _^_}
 use Rattle.parts.specs.Part.{partAt, partsFrom}
@@ -6,22 +6,22 @@ use Rattle.index_layout.specs.declared.Layout.{Layout}
 use Rattle.field.specs.Number.{bigAt}
 use Rattle.index_layout.specs.Layout.{sizeWidth, entrySize, onPage, pageAt, entryAt, layoutOf}
 
--- The size and the location of an entry, which follow its key.
+-- The size and the location of an entry, which follow its key (rule I5).
 unfoldable pub sizeAt : List ℕ → Layout → ℕ → ℕ → ℕ
 sizeAt s l p i = bigAt s (entryAt l p i + l .«key_length») sizeWidth
 
 unfoldable pub locationAt : List ℕ → Layout → ℕ → ℕ → ℕ
 locationAt s l p i = bigAt s (entryAt l p i + l .«key_length» + sizeWidth) (l .«offset_width»)
 
--- With W = 6 the location is archive number (2 bytes), then offset (4).
+-- With W = 6 the location is archive number (2 bytes), then offset (4) (rule I13).
 abbrev pub archiveOf : ℕ → ℕ
 archiveOf location = location / 2 ^ 32
 
 abbrev pub offsetOf : ℕ → ℕ
 offsetOf location = location % 2 ^ 32
 
--- The list of an index is its entries' bytes, in order, with nothing between. The entries of page p stand one after the other
--- from its start on.
+-- The list of an index is its entries' bytes, in order, with nothing between (rule I15). The entries of page p stand one after
+-- the other from its start on.
 abbrev pub entriesOf : List ℕ → Layout → ℕ → List ℕ
 entriesOf s l p = partAt s (pageAt p) (onPage l p * entrySize l)
 

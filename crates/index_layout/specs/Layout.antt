@@ -1,5 +1,5 @@
--- Where things stand in an archive index s: document 01, "Archive index". K is `key_length`, W `offset_width`, n `entries` and
--- P `pages` of a layout.
+-- Where things stand in an archive index s: rules I1 to I3, I5 to I7 and I9. K is `key_length`, W `offset_width`, n `entries`
+-- and P `pages` of a layout.
 use mathlib.Core.List.{List}
 use Prim.Native.Nat.{ℕ, _+_, _-_, _*_, _/_, min}
 use lib.Dec.{ltb}
@@ -10,14 +10,14 @@ use Rattle.refusal.specs.Check.{Check, refusedIf}
 use Rattle.refusal.specs.Number.{entry-count}
 use Rattle.index_layout.specs.declared.Layout.{Layout}
 
--- The bytes of a page and of the footer.
+-- The bytes of a page (rule I6) and of the footer (rule I2).
 abbrev pub pageSize : ℕ
 pageSize = 4096
 
 abbrev pub footerSize : ℕ
 footerSize = 28
 
--- Where the footer's fields stand in it, after the eight bytes of the contents hash.
+-- Where the footer's fields stand in it, after the eight bytes of the contents hash (rule I2).
 abbrev pub versionAt : ℕ
 versionAt = 8
 
@@ -46,7 +46,7 @@ abbrev pub footerHashAt : ℕ
 footerHashAt = 20
 
 -- What the fields may be: version 0 or 1, page KB 4, W 4, 5 or 6, size width 4, K 1 to 16, hash length 8, and n at most
--- 8,388,608.
+-- 8,388,608 (rule I2).
 abbrev pub leastVersion : ℕ
 leastVersion = 0
 
@@ -77,15 +77,15 @@ hashLength = 8
 abbrev pub mostEntries : ℕ
 mostEntries = 8388608
 
--- 4: n above 8,388,608.
+-- 4: n above 8,388,608 (rules I16, I21).
 abbrev pub countCheck : ℕ → Check
 countCheck n = refusedIf (ltb mostEntries n) entry-count 0
 
--- The last 28 bytes.
+-- The last 28 bytes (rule I2).
 abbrev pub footer : List ℕ → List ℕ
 footer s = drop (length s - footerSize) s
 
--- The fields of a footer f that are read again: everything is big-endian but the entry count.
+-- The fields of a footer f that are read again: everything is big-endian but the entry count (rule I3).
 abbrev pub version : List ℕ → ℕ
 version f = byteAt f versionAt
 
@@ -101,35 +101,35 @@ entryCount f = littleAt f entryCountAt 4
 abbrev pub footerHash : List ℕ → List ℕ
 footerHash f = partAt f footerHashAt hashLength
 
--- An entry is key, encoded size and location.
+-- An entry is key, encoded size and location (rule I5).
 unfoldable pub entrySize : Layout → ℕ
 entrySize l = l .«key_length» + sizeWidth + l .«offset_width»
 
--- E: how many entries a full page holds.
+-- E: how many entries a full page holds (rule I6).
 unfoldable pub full : Layout → ℕ
 full l = pageSize / entrySize l
 
--- P: how many pages n entries take, at e on a full page.
+-- P: how many pages n entries take, at e on a full page (rule I7).
 unfoldable pub pagesFor : ℕ → ℕ → ℕ
 pagesFor n e = (n + e - 1) / e
 
--- How many entries page p has: every page but the last is full, the last holds the rest.
+-- How many entries page p has: every page but the last is full, the last holds the rest (rule I7).
 unfoldable pub onPage : Layout → ℕ → ℕ
 onPage l p = min (full l) (l .entries - p * full l)
 
--- The number of an entry through the whole file.
+-- The number of an entry through the whole file (rule I7).
 abbrev pub entryNumber : Layout → ℕ → ℕ → ℕ
 entryNumber l p i = p * full l + i
 
--- Where page p stands.
+-- Where page p stands (rule I7).
 abbrev pub pageAt : ℕ → ℕ
 pageAt p = p * pageSize
 
--- Where slot i of page p stands.
+-- Where slot i of page p stands (rule I7).
 unfoldable pub entryAt : Layout → ℕ → ℕ → ℕ
 entryAt l p i = pageAt p + i * entrySize l
 
--- After the pages: the last key of each page, then the hash of each page, then the footer.
+-- After the pages: the last key of each page, then the hash of each page, then the footer (rule I9).
 unfoldable pub lastKeyAt : Layout → ℕ → ℕ
 lastKeyAt l p = pageAt (l .pages) + p * l .«key_length»
 

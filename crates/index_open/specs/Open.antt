@@ -1,4 +1,4 @@
--- The checks 1 to 5 of an index, each a refusal or nothing, in document 01's order.
+-- The checks 1 to 5 of an index, in their order: rules I2, I4 and I16.
 use mathlib.Core.Bool.{not}
 use mathlib.Core.List.{List, [], _∷_, _++_}
 use Prim.Native.Nat.{ℕ, _+_, _-_}
@@ -15,15 +15,15 @@ use Rattle.index_layout.specs.Layout.{footerSize, versionAt, reservedAt, pageKb
 use Rattle.index_open.specs.declared.Checked.{Checked}
 use Rattle.index_open.specs.declared.Checked.the-variants.{Passed, Refused}
 
--- 1: under 28 bytes.
+-- 1: under 28 bytes (rule I16).
 abbrev pub shortCheck : List ℕ → Check
 shortCheck s = refusedIf (ltb (length s) footerSize) index-short 0
 
--- 2: the footer byte at an offset lies outside its list, from low to high.
+-- 2: the footer byte at an offset is not one of those from low to high (rule I16).
 unfoldable pub fieldCheck : List ℕ → (at low high : ℕ) → Check
 fieldCheck f at low high = refusedIf (not (within (byteAt f at) low high)) footer-field 0
 
--- Version, the two reserved bytes, page KB, offset width, size width, key length and hash length, in the footer's order.
+-- Version, the two reserved bytes, page KB, offset width, size width, key length and hash length, in order (rule I2).
 unfoldable pub fieldsCheck : List ℕ → Check
 fieldsCheck f =
     first (fieldCheck f versionAt leastVersion mostVersion)
@@ -35,7 +35,7 @@ fieldsCheck f =
     (first (fieldCheck f keyLengthAt leastKeyLength mostKeyLength)
     (fieldCheck f hashLengthAt hashLength hashLength)))))))
 
--- 3: the hash of the 20 bytes from the version on, with the footer hash itself taken as zero.
+-- 3: the hash of the 20 bytes from the version on, with the footer hash itself taken as zero (rules I4, I16).
 abbrev pub hashedFooter : List ℕ → List ℕ
 hashedFooter f = partAt f versionAt (footerHashAt - versionAt) ++ replicate hashLength 0
 
@@ -46,15 +46,15 @@ footerHashCheck f = refusedIf (not (sameBytes (take hashLength (md5 (hashedFoote
 unfoldable pub footerCheck : List ℕ → Check
 footerCheck f = first (fieldsCheck f) (first (footerHashCheck f) (countCheck (entryCount f)))
 
--- 5: file length wrong.
+-- 5: another length than that of the layout (rules I9, I16).
 abbrev pub lengthCheck : List ℕ → Check
 lengthCheck s = refusedIf (not (eqb (length s) (indexLength (layoutOf s)))) index-length 0
 
--- 1 to 5.
+-- 1 to 5, in this order (rule I16).
 unfoldable pub opening : List ℕ → Check
 opening s = first (shortCheck s) (first (footerCheck (footer s)) (lengthCheck s))
 
--- The values of a layout: version, W, K, n, P.
+-- The values of a layout: version, W, K, n, P (rule I18).
 unfoldable pub layoutValues : Layout → List ℕ
 layoutValues l = l .version ∷ l .«offset_width» ∷ l .«key_length» ∷ l .entries ∷ l .pages ∷ []
 

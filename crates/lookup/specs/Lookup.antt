@@ -1,4 +1,4 @@
--- The lookup of a key in an archive index: document 01, "Archive index".
+-- The lookup of a key in an archive index: rules L3 to L7 and L10.
 use mathlib.Core.Bool.{Bool, false, not, cond}
 use mathlib.Core.List.{List, [], _∷_}
 use Prim.Native.Nat.{ℕ, _+_}
@@ -38,21 +38,21 @@ storedIn s l sought = record {
   key = λ p i. compared (keyAt s l p i) sought;
 }
 
--- Where a lookup ends, with the comparisons of stored keys so far, and whether the key there is the sought one.
+-- Where a lookup ends, with the comparisons of stored keys so far (rule L5), and whether the key there is the sought one.
 pub record Ended : Type 0 where
   pub page : ℕ
   pub slot : ℕ
   pub count : ℕ
   pub found : Bool
 
--- The page or the slot where a halving ended, as the declared answers of the code have them.
+-- The page or the slot where a halving ended, as the declared answers of the code have them (rule L7).
 abbrev pub pageEnd : PageEnd → Halved
 pageEnd r = record { place = r .page .0; count = r .compared }
 
 abbrev pub slotEnd : SlotEnd → Halved
 slotEnd r = record { place = r .slot .0; count = r .compared }
 
--- The halving rule on a page's entries: no slot means absent; else one more comparison tells found or absent.
+-- The halving rule on a page's entries: no slot means absent; else one more comparison tells found or absent (rule L4).
 unfoldable pub slotHalved : Stored → ℕ → Halved
 slotHalved k p = halve (λ i. isBelow (k .key p i)) (k .entries p)
 
@@ -65,7 +65,7 @@ endedAt k p count h =
 unfoldable pub endedOn : Stored → (page count : ℕ) → Ended
 endedOn k p count = endedAt k p count (slotHalved k p)
 
--- The halving rule on the last keys: no page means absent; else on that page's entries.
+-- The halving rule on the last keys: no page means absent; else on that page's entries (rule L4).
 unfoldable pub pageHalved : Stored → Halved
 pageHalved k = halve (λ p. isBelow (k .last p)) (k .pages)
 
@@ -77,23 +77,23 @@ endedFrom k h =
 unfoldable pub ended : Stored → Ended
 ended k = endedFrom k (pageHalved k)
 
--- What a lookup gives that ends there: page, slot, size, location and comparisons; of an absent key, the comparisons.
+-- What a lookup gives that ends there: page, slot, size, location and comparisons; of an absent key, the comparisons (rule L6).
 unfoldable pub endOutcome : List ℕ → Layout → Ended → Outcome
 endOutcome s l e =
     cond (e .found)
     (answered (e .page ∷ e .slot ∷ sizeAt s l (e .page) (e .slot) ∷ locationAt s l (e .page) (e .slot) ∷ e .count ∷ []))
     (absent (0 ∷ 0 ∷ 0 ∷ 0 ∷ e .count ∷ []))
 
--- 10: the sought key is not K bytes.
+-- 10: the sought key is not K bytes (rule L3).
 unfoldable pub keyCheck : Layout → List ℕ → Check
 keyCheck l sought = refusedIf (not (eqb (length sought) (l .«key_length»))) index-key-length 0
 
--- The lookup: 1 to 5, 10, then the halving rule.
+-- The lookup: 1 to 5, 10 (rule L3), then the halving rule (rule L4).
 unfoldable pub lookupOf : List ℕ → List ℕ → Outcome
 lookupOf s sought =
     after (first (opening s) (keyCheck (layoutOf s) sought)) (endOutcome s (layoutOf s) (ended (storedIn s (layoutOf s) sought)))
 
--- The most comparisons: the binary digits of P and of E, and 1.
+-- The most comparisons: the binary digits of P and of E, and 1 (rule L10).
 unfoldable pub mostOf : Layout → ℕ
 mostOf l = binaryDigits (l .pages) + binaryDigits (full l) + 1
 

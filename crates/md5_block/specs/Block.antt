@@ -1,11 +1,11 @@
--- One block of RFC 1321, section 3.4.
+-- One block of RFC 1321, section 3.4: rules H2 and H5 to H7.
 use mathlib.Core.List.{List, [], _∷_}
 use Prim.Native.Nat.{ℕ, zero, suc, _+_, _-_, _*_, _/_, _%_, _^_}
 use lib.Bits.{bitAnd, bitOr, bitXor}
 use lib.ListN.{length, getD, drop}
 use Rattle.md5_block.specs.declared.Words.{Words}
 
--- The sixty-four addends, T of RFC 1321.
+-- The sixty-four addends, T of RFC 1321 (rule H5).
 unfoldable pub addends : List ℕ
 addends =
     0xd76aa478 ∷ 0xe8c7b756 ∷ 0x242070db ∷ 0xc1bdceee ∷ 0xf57c0faf ∷ 0x4787c62a ∷ 0xa8304613 ∷ 0xfd469501 ∷
@@ -17,11 +17,11 @@ addends =
     0xf4292244 ∷ 0x432aff97 ∷ 0xab9423a7 ∷ 0xfc93a039 ∷ 0x655b59c3 ∷ 0x8f0ccc92 ∷ 0xffeff47d ∷ 0x85845dd1 ∷
     0x6fa87e4f ∷ 0xfe2ce6e0 ∷ 0xa3014314 ∷ 0x4e0811a1 ∷ 0xf7537e82 ∷ 0xbd3af235 ∷ 0x2ad7d2bb ∷ 0xeb86d391 ∷ []
 
--- The sixteen shift amounts, four for each round.
+-- The sixteen shift amounts, four for each round (rule H5).
 unfoldable pub shifts : List ℕ
 shifts = 7 ∷ 12 ∷ 17 ∷ 22 ∷ 5 ∷ 9 ∷ 14 ∷ 20 ∷ 4 ∷ 11 ∷ 16 ∷ 23 ∷ 6 ∷ 10 ∷ 15 ∷ 21 ∷ []
 
--- The sum modulo 2 to the 32.
+-- The sum modulo 2^32 (rule H2).
 abbrev pub add : ℕ → ℕ → ℕ
 add x y = (x + y) % 2 ^ 32
 
@@ -33,14 +33,14 @@ complement x = 2 ^ 32 - 1 - x
 abbrev pub rotated : ℕ → ℕ → ℕ
 rotated x s = bitOr (x * 2 ^ s % 2 ^ 32) (x / 2 ^ (32 - s))
 
--- F, G, H and I, by the round.
+-- F, G, H and I of RFC 1321, by the round (rule H6).
 unfoldable pub mixed : ℕ → ℕ → ℕ → ℕ → ℕ
 mixed zero b c d = bitOr (bitAnd b c) (bitAnd (complement b) d)
 mixed (suc zero) b c d = bitOr (bitAnd b d) (bitAnd c (complement d))
 mixed (suc (suc zero)) b c d = bitXor (bitXor b c) d
 mixed (suc (suc (suc r))) b c d = bitXor c (bitOr b (complement d))
 
--- The number of the word that step i adds, by the round.
+-- The number of the word that step i adds, by the round (rule H6).
 unfoldable pub wordNumber : ℕ → ℕ → ℕ
 wordNumber zero i = i % 16
 wordNumber (suc zero) i = (5 * i + 1) % 16
@@ -53,7 +53,7 @@ turned t x i w =
     rotated (add (add (add (w .a) (mixed (i / 16) (w .b) (w .c) (w .d))) (getD x (wordNumber (i / 16) i) 0)) (getD t i 0))
     (getD shifts (i / 16 * 4 + i % 4) 0)
 
--- Step i: a, b, c and d change places for the next step.
+-- Step i: a, b, c and d change places for the next step (rule H6).
 unfoldable pub step : List ℕ → List ℕ → ℕ → Words → Words
 step t x i w = record { a = w .d; b = add (w .b) (turned t x i w); c = w .b; d = w .c }
 
@@ -75,7 +75,7 @@ wordsOf (suc n) s = word s ∷ wordsOf n (drop 4 s)
 unfoldable pub sum : Words → Words → Words
 sum v w = record { a = add (v .a) (w .a); b = add (v .b) (w .b); c = add (v .c) (w .c); d = add (v .d) (w .d) }
 
--- The words after one block of sixteen words.
+-- The words after one block of sixteen words (rule H7).
 unfoldable pub block : List ℕ → List ℕ → Words → Words
 block t x w = sum w (steps t x 0 64 w)
 

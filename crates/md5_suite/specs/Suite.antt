@@ -1,4 +1,4 @@
--- The suite's data.
+-- The suite's data: rule P8.
 use mathlib.Core.List.{List, [], _∷_, _++_}
 use Prim.Native.Nat.{ℕ, zero, suc, _+_, _*_, _/_, _%_}
 

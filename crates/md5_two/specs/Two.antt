@@ -1,4 +1,4 @@
--- Two messages at once: no rule of its own, each message by itself.
+-- Two messages at once: no rule of its own, each message by itself (rules H1 and H9).
 use mathlib.Core.Path.{_≡_}
 use mathlib.Core.List.{List}
 use Prim.Native.Nat.{ℕ}
@@ -10,7 +10,7 @@ use Rattle.md5.specs.Message.{limited, digestOr0}
 use Rattle.refusal.specs.Check.{checkOf}
 use Rattle.md5_two.specs.declared.Two.{Two}
 
--- The answer for one message: its own verdict, and the first eight bytes of its digest.
+-- The answer for one message: its own verdict, and the first eight bytes of its digest (rule H9).
 abbrev pub FirstEightOf : List ℕ → FirstEight → Type 0
 FirstEightOf m r = (checkOf (r .verdict) ≡ limited (length m)) × (r .bytes ≡ take 8 (digestOr0 m))
 

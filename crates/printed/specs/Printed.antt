@@ -1,4 +1,4 @@
--- What the listing program prints: document 01, "Listing, whole".
+-- What the listing program prints: rules T10 and T11.
 use mathlib.Core.Bool.{Bool, _||_, cond}
 use mathlib.Core.List.{List, [], _++_}
 use Prim.Native.Nat.{ℕ}
@@ -9,7 +9,7 @@ use Rattle.refusal.specs.Number.{index-page-hash, last-key, chunk-hash, decoded
 use Rattle.text.specs.Text.{ascii, numbered}
 use Rattle.listing.specs.Listing.{listingCheck, textOf}
 
--- Whether document 01's table names a place for a number: 6 to 9, 23 to 25, 34 to 37, 40, 41 and 61.
+-- Whether a number has a place (rule N1): 6 to 9, 23 to 25, 34 to 37, 40, 41 and 61.
 unfoldable pub hasPlace : ℕ → Bool
 hasPlace number =
     within number index-page-hash last-key
@@ -18,11 +18,11 @@ hasPlace number =
     || within number block-cut id-range
     || eqb number hex-digit
 
--- The place, where the table names one, also a place 0.
+-- The place, where the number has one, also a place 0.
 unfoldable pub placeText : ℕ → ℕ → List ℕ
 placeText number place = cond (hasPlace number) (numbered " at " place) []
 
--- The line of a refusal: `refused 8 at 3`; a refusal without a place ends after the number.
+-- The line of a refusal, as `refused 8 at 3`; without a place it ends after the number (rule T11).
 unfoldable pub refusalLine : ℕ → ℕ → List ℕ
 refusalLine number place = numbered "refused " number ++ placeText number place ++ ascii "\n"
 
@@ -31,6 +31,6 @@ unfoldable pub printedAfter : Check → List ℕ → List ℕ
 printedAfter silent s = textOf s
 printedAfter (refused number place) s = refusalLine number place
 
--- Every byte that the program prints for an input.
+-- Every byte that the program prints for an input (rule T10).
 unfoldable pub printed : List ℕ → List ℕ
 printed s = printedAfter (listingCheck s) s

@@ -1,4 +1,4 @@
--- The numbers of refusal, under the names that src/lib.rt has for them.
+-- The numbers of refusal, under the names that src/lib.rt has for them: rule N1.
 use Prim.Native.Nat.{ℕ}
 
 -- ---- archive index

@@ -1,4 +1,4 @@
--- What lent output holds at the end.
+-- What lent output holds at the end: rules G13 and G16.
 use mathlib.Core.List.{List, _++_}
 use Prim.Native.Nat.{ℕ}
 use lib.Dec.{ltb}
@@ -6,11 +6,11 @@ use lib.ListN.{length, drop}
 use Rattle.refusal.specs.Check.{Check, silent, refused, refusedIf}
 use Rattle.refusal.specs.Number.{output-short}
 
--- 13: the output is shorter than the file or list to be written.
+-- 13: the output is shorter than the file or list to be written (rules I19, I21).
 abbrev pub roomCheck : (needed room : ℕ) → Check
 roomCheck needed room = refusedIf (ltb room needed) output-short 0
 
--- Filled from its start, and bytes past the end of the answer stay; after a refusal every byte stays.
+-- Filled from its start, and bytes past the end of the answer stay (rule G16); after a refusal every byte stays (rule G13).
 unfoldable pub filled : Check → List ℕ → List ℕ → List ℕ
 filled silent answer output = answer ++ drop (length answer) output
 filled (refused number place) answer output = output

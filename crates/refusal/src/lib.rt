@@ -1,4 +1,4 @@
-// Refusals: the numbers of document 01's table, each under one name, and the answer of a check.
+// Refusals: the numbers of rule N1, each under one name, and the answer of a check.
 // specs/Number.antt has the same names, in lower case with a hyphen for each underscore.
 ghost use mathlib.Core.Path.{_≡_};
 ghost use Rattle.refusal.specs.Check.{refused, checkOf};
@@ -90,7 +90,7 @@ pub const HEX_DIGIT: u32 = 61;
 // Listing.
 pub const LISTING_INPUT: u32 = 70;
 
-// What a refusal gives: its number, and its place (0 where document 01 names none).
+// What a refusal gives: its number, and its place (0 where rule N1 names none).
 pub struct Refusal {
     pub number: u32,
     pub place: usize,

@@ -1,5 +1,5 @@
--- Demand 2: "A checked index, listed and written again, gives the same file but for the eight contents-hash bytes. A written
--- index reads back to its entries and settings."
+-- Demand 2: a checked index, listed and written again, is the same file but for its contents hash, and a written one is read
+-- back to its list and settings: rules I23, I24 and P2.
 use mathlib.Core.Path.{_≡_}
 use mathlib.Core.List.{List, [], _∷_, _++_}
 use Prim.Native.Nat.{ℕ, _≤_, _<_}
@@ -104,7 +104,7 @@ pub record ReadsBack (settings : Settings) (list : List ℕ) (c : Back settings 
 -- ---- the demand
 
 pub record Demand2 : Type 0 where
-  -- "A checked index, listed and written again, gives the same file but for the eight contents-hash bytes."
+  -- A checked index, listed and written again (rule I23).
   pub again : (index : List ℕ) (c : Again index) → SameFile index c
-  -- "A written index reads back to its entries and settings."
+  -- A written index, read back (rule I24).
   pub back : (settings : Settings) (list : List ℕ) (c : Back settings list) → ReadsBack settings list c

@@ -1,4 +1,4 @@
--- The same file but for the eight contents-hash bytes.
+-- The same file but for the eight bytes of the contents hash: rules I14 and I15.
 use mathlib.Core.List.{List}
 use Prim.Native.Nat.{ℕ, _-_}
 use lib.ListN.{length, take}
@@ -9,11 +9,11 @@ use Rattle.index_layout.specs.Layout.{footerSize, hashLength, layoutOf}
 use Rattle.index_footer.specs.Footer.{contentsOf}
 use Rattle.writer.specs.declared.Settings.{Settings}
 
--- The settings of an index: version, W and K.
+-- The settings of an index: version, W and K (rule I15).
 unfoldable pub settingsOf : Layout → Settings
 settingsOf l = record { version = l .version; «offset_width» = l .«offset_width»; «key_length» = l .«key_length» }
 
--- What the writer puts as the contents hash of an index: the first eight bytes of the hash of its last keys and page hashes.
+-- The contents hash that the writer puts: the first eight bytes of the hash of last keys and page hashes (rule I14).
 abbrev pub contentsHashOf : List ℕ → List ℕ
 contentsHashOf s = take hashLength (md5 (contentsOf s (layoutOf s)))
 

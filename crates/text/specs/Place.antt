@@ -1,4 +1,4 @@
--- Places in output.
+-- Places in output: rule G17.
 use Prim.Native.Nat.{ℕ, _+_, _-_, _^_, min}
 
 -- The place after so many bytes from a place on. Places end at 2^64 - 1, which no output reaches.

@@ -1,4 +1,4 @@
--- Text as its bytes: words, numbers in decimal, bytes in hex.
+-- Text as its bytes, with numbers in decimal and bytes in hex: rule T8.
 use mathlib.Core.Bool.{cond}
 use mathlib.Core.List.{List, [], _∷_, _++_}
 use Prim.Native.Char.{code}

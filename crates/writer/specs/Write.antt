@@ -1,4 +1,4 @@
--- Writing an index: 11, 12, 4, 8, 13, then the file.
+-- Writing an index, by 11, 12, 4, 8, 13, then the file: rules I15 and I20 to I22.
 use mathlib.Core.Bool.{Bool, not, _&&_}
 use mathlib.Core.List.{List, [], _∷_}
 use Prim.Native.Nat.{ℕ, _-_, _*_, _/_, _%_}
@@ -25,7 +25,7 @@ layoutOver s n = layoutWith (s .version) (s .«offset_width») (s .«key_length�
 unfoldable pub listEntrySize : Settings → ℕ
 listEntrySize s = entrySize (layoutOver s 0)
 
--- How many entries a list has.
+-- How many entries a list has (rule I20).
 unfoldable pub listCount : Settings → List ℕ → ℕ
 listCount s list = length list / listEntrySize s
 
@@ -33,7 +33,7 @@ listCount s list = length list / listEntrySize s
 unfoldable pub layoutFor : Settings → List ℕ → Layout
 layoutFor s list = layoutOver s (listCount s list)
 
--- 11: version is 0 or 1, W 4, 5 or 6, K 1 to 16.
+-- 11: version is not 0 or 1, W not 4, 5 or 6, or K not 1 to 16 (rule I21).
 unfoldable pub settingsRight : Settings → Bool
 settingsRight s =
     within (s .version) leastVersion mostVersion
@@ -42,11 +42,11 @@ settingsRight s =
 abbrev pub settingsCheck : Settings → Check
 settingsCheck s = refusedIf (not (settingsRight s)) settings 0
 
--- 12: the list is not whole entries.
+-- 12: the list is not of whole entries (rule I21).
 abbrev pub wholeCheck : Settings → List ℕ → Check
 wholeCheck s list = refusedIf (not (eqb (length list % listEntrySize s) 0)) list-length 0
 
--- 8: a key not above the one before. The first has none before it.
+-- 8: a key not above the one before (rule I21). The first has none before it.
 unfoldable pub keyIn : Settings → List ℕ → ℕ → List ℕ
 keyIn s list i = partAt list (i * listEntrySize s) (s .«key_length»)
 
@@ -60,7 +60,7 @@ unfoldable pub writeCheck : Settings → List ℕ → ℕ → Check
 writeCheck s list room =
     first (settingsCheck s) (first (wholeCheck s list) (first (countCheck (listCount s list)) (first (risingCheck s list) (roomCheck (indexLength (layoutFor s list)) room))))
 
--- What writing tells: the bytes of the file.
+-- What writing tells: the bytes of the file (rule I22).
 unfoldable pub outcome : Written → Outcome
 outcome (File n) = answered (n ∷ [])
 outcome (Refused r) = refusal (r .number) (r .place)
