@@ -174,6 +174,28 @@ uint32_t dwarnizza_index_check(const uint8_t *index, size_t index_len,
                                uint64_t answer[8]);
 
 /*
+ * What the footer of an index says, by 1 to 5 of the full check alone: no page
+ * is looked at, so that this is no check of the index.
+ * Answered: answer[0] is the version, [1] W, [2] K, [3] n, [4] P.
+ * Refused: 1 to 5 as the full check refuses.
+ */
+uint32_t dwarnizza_index_settings(const uint8_t *index, size_t index_len,
+                                  uint64_t answer[8]);
+
+/*
+ * The entry of a number, counted from 0 through the whole file, by 1 to 5 of
+ * the full check alone. The entries 0 to n - 1, in order, are those of the
+ * list.
+ * Answered: answer[0] is where in the index its key stands, [1] K, [2] the
+ * encoded size, [3] the archive number, which is 0 where W is not 6, [4] the
+ * offset, [5] the page, [6] the slot.
+ * Absent: number is n or more; no word of the answer is named.
+ * Refused: 1 to 5 as the full check refuses.
+ */
+uint32_t dwarnizza_index_entry(const uint8_t *index, size_t index_len,
+                               uint64_t number, uint64_t answer[8]);
+
+/*
  * The list of an index.
  * Answered: the list is written at the start of output, and the bytes past it
  * stay; answer[0] is how many were written.
@@ -206,6 +228,34 @@ uint32_t dwarnizza_index_write(uint8_t version, uint8_t offset_width,
                                uint8_t key_length, const uint8_t *list,
                                size_t list_len, uint8_t *output,
                                size_t output_len, uint64_t answer[8]);
+
+/*
+ * The length of the file that dwarnizza_index_write writes of this list with
+ * these settings.
+ * Answered: answer[0] is the length.
+ * Refused: 11, 12, 4 and 8 as dwarnizza_index_write refuses.
+ */
+uint32_t dwarnizza_index_written_length(uint8_t version, uint8_t offset_width,
+                                        uint8_t key_length, const uint8_t *list,
+                                        size_t list_len, uint64_t answer[8]);
+
+/*
+ * One entry of a list, of K + 4 + W bytes: key, encoded size and location, the
+ * numbers big-endian. With W = 6 the location is the archive number in two
+ * bytes and the offset in four; with 4 and 5 it is the offset alone.
+ * Answered: the entry is written at the start of output, and the bytes past it
+ * stay; answer[0] is how many were written.
+ * Refused, by the first that holds: 11 where a setting is another than
+ * dwarnizza_index_write takes, or W bytes do not hold archive and offset (with
+ * W = 6 above 65,535 or 4,294,967,295; else an archive that is not 0, or an
+ * offset of more than W bytes); 10 where key_len is not K; 13 where output_len
+ * is below K + 4 + W.
+ */
+uint32_t dwarnizza_list_put(uint8_t version, uint8_t offset_width,
+                            uint8_t key_length, const uint8_t *key,
+                            size_t key_len, uint32_t size, uint32_t archive,
+                            uint64_t offset, uint8_t *output, size_t output_len,
+                            uint64_t answer[8]);
 
 /*
  * The listing of an index, as text: a line for the whole, then a line for each

@@ -1,4 +1,5 @@
 // How an answer is laid out.
+use index_layout::Layout;
 use lookup::Entry;
 use refusal::Refusal;
 use refusal::Verdict;
@@ -6,7 +7,8 @@ ghost use mathlib.Core.Path.{_≡_};
 ghost use mathlib.Core.List.{_∷_};
 ghost use lib.ListN.{replicate};
 ghost use Rattle.refusal.specs.Check.{checkOf};
-ghost use Rattle.refusal.specs.Outcome.{refusal};
+ghost use Rattle.refusal.specs.Outcome.{answered, refusal};
+ghost use Rattle.index_open.specs.Open.{layoutValues};
 ghost use Rattle.dwarnizza.specs.Answer.{result, answerWords, verdictOutcome};
 
 // Lays out a refusal.
@@ -46,4 +48,16 @@ pub(crate) fn entry_words(e: Entry) -> [u64; 8]
     let location = e.location;
     let compared = e.compared as u64;
     [p, i, size, location, compared, 0, 0, 0]
+}
+
+// The words of a layout.
+pub(crate) fn layout_words(l: Layout) -> [u64; 8]
+    ensures { λ r. ⌜ r ≡ answerWords (answered (layoutValues l)) ⌝ }
+{
+    let version = l.version as u64;
+    let offset_width = l.offset_width as u64;
+    let key_length = l.key_length as u64;
+    let entries = l.entries as u64;
+    let pages = l.pages as u64;
+    [version, offset_width, key_length, entries, pages, 0, 0, 0]
 }

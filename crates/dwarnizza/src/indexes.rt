@@ -1,8 +1,10 @@
 // Archive indexes.
 use crate::answer::entry_words;
+use crate::answer::layout_words;
 use crate::answer::refused;
 use entries::Listed;
 use index_open::Checked;
+use list_entry::Put;
 use listing::ListingText;
 use lookup::Answer;
 use lookup::Bounded;
@@ -11,12 +13,15 @@ use writer::Written;
 ghost use mathlib.Core.Path.{_≡_};
 ghost use lib.ListN.{length};
 ghost use Rattle.refusal.specs.Output.{filled};
+ghost use Rattle.index_open.specs.Open.{openOutcome};
 ghost use Rattle.index.specs.Check.{checkOutcome};
+ghost use Rattle.index_entry.specs.Entry.{entryOutcome};
 ghost use Rattle.index_layout.specs.Entries.{listOf};
 ghost use Rattle.entries.specs.List.{listCheck, listOutcome};
 ghost use Rattle.lookup.specs.Lookup.{lookupOf, boundOf};
 ghost use Rattle.index_file.specs.File.{fileOf};
-ghost use Rattle.writer.specs.Write.{layoutFor, writeCheck, writeOutcome};
+ghost use Rattle.writer.specs.Write.{layoutFor, writeCheck, writeOutcome, lengthOutcome};
+ghost use Rattle.list_entry.specs.Put.{locationOf, entryBytes, putCheck, putOutcome};
 ghost use Rattle.listing.specs.Listing.{textOf, listingCheck, listingOutcome, fitted};
 ghost use Rattle.dwarnizza.specs.Answer.{result, answerWords};
 ghost use Rattle.dwarnizza.specs.Indexes.{settingsFrom};
@@ -30,12 +35,50 @@ pub extern "C" fn dwarnizza_index_check(index: &[u8], answer: &mut [u64; 8]) -> 
     match index::check(index) {
         Checked::Refused(r) => refused(r, answer),
         Checked::Passed(l) => {
-            let version = l.version as u64;
-            let offset_width = l.offset_width as u64;
-            let key_length = l.key_length as u64;
-            let entries = l.entries as u64;
-            let pages = l.pages as u64;
-            *answer = [version, offset_width, key_length, entries, pages, 0, 0, 0];
+            *answer = layout_words(l);
+            0
+        }
+    }
+}
+
+// What the footer says, by 1 to 5 alone: version, offset width, key length, entries and pages.
+#[no_mangle]
+pub extern "C" fn dwarnizza_index_settings(index: &[u8], answer: &mut [u64; 8]) -> u32
+    ensures { λ r. ⌜ r ≡ result (openOutcome (now (index .entry))) ⌝ }
+    ensures { λ _. ⌜ now (answer .exit) ≡ answerWords (openOutcome (now (index .entry))) ⌝ }
+{
+    match index_open::open(index) {
+        Checked::Refused(r) => refused(r, answer),
+        Checked::Passed(l) => {
+            *answer = layout_words(l);
+            0
+        }
+    }
+}
+
+// The entry of a number: place of the key, its length, size, archive number, offset, page and slot.
+#[no_mangle]
+pub extern "C" fn dwarnizza_index_entry(index: &[u8], number: u64, answer: &mut [u64; 8]) -> u32
+    ensures { λ r. ⌜ r ≡ result (entryOutcome (now (index .entry)) number) ⌝ }
+    ensures { λ _. ⌜ now (answer .exit) ≡ answerWords (entryOutcome (now (index .entry)) number) ⌝ }
+{
+    match index_entry::find(index, number) {
+        index_entry::Answer::Refused(r) => refused(r, answer),
+        index_entry::Answer::Absent => {
+            *answer = [0u64; 8];
+            1
+        }
+        index_entry::Answer::Found(e) => {
+            let page = e.page;
+            let slot = e.slot;
+            let at = e.key_at as u64;
+            let key_length = e.key_length as u64;
+            let size = e.size as u64;
+            let archive = e.archive as u64;
+            let offset = e.offset;
+            let p = page.0 as u64;
+            let i = slot.0 as u64;
+            *answer = [at, key_length, size, archive, offset, p, i, 0];
             0
         }
     }
@@ -118,6 +161,63 @@ pub extern "C" fn dwarnizza_index_write(
         Written::Refused(r) => refused(r, answer),
         Written::File(length) => {
             *answer = [length as u64, 0, 0, 0, 0, 0, 0, 0];
+            0
+        }
+    }
+}
+
+// The length of the file that a list gives.
+#[no_mangle]
+pub extern "C" fn dwarnizza_index_written_length(
+    version: u8,
+    offset_width: u8,
+    key_length: u8,
+    list: &[u8],
+    answer: &mut [u64; 8],
+) -> u32
+    ensures { λ r. ⌜ r ≡ result (lengthOutcome (settingsFrom version «offset_width» «key_length») (now (list .entry))) ⌝ }
+    ensures { λ _. ⌜ now (answer .exit) ≡ answerWords (lengthOutcome (settingsFrom version «offset_width» «key_length») (now (list .entry))) ⌝ }
+{
+    let settings = Settings {
+        version,
+        offset_width,
+        key_length,
+    };
+    match writer::written_length(settings, list) {
+        Written::Refused(r) => refused(r, answer),
+        Written::File(length) => {
+            *answer = [length as u64, 0, 0, 0, 0, 0, 0, 0];
+            0
+        }
+    }
+}
+
+// Puts one entry of a list: the bytes written.
+#[no_mangle]
+pub extern "C" fn dwarnizza_list_put(
+    version: u8,
+    offset_width: u8,
+    key_length: u8,
+    key: &[u8],
+    size: u32,
+    archive: u32,
+    offset: u64,
+    output: &mut [u8],
+    answer: &mut [u64; 8],
+) -> u32
+    ensures { λ r. ⌜ r ≡ result (putOutcome (settingsFrom version «offset_width» «key_length») (now (key .entry)) archive offset (length (now (output .entry)))) ⌝ }
+    ensures { λ _. ⌜ now (output .exit) ≡ filled (putCheck (settingsFrom version «offset_width» «key_length») (now (key .entry)) archive offset (length (now (output .entry)))) (entryBytes «offset_width» (now (key .entry)) size (locationOf archive offset)) (now (output .entry)) ⌝ }
+    ensures { λ _. ⌜ now (answer .exit) ≡ answerWords (putOutcome (settingsFrom version «offset_width» «key_length») (now (key .entry)) archive offset (length (now (output .entry)))) ⌝ }
+{
+    let settings = Settings {
+        version,
+        offset_width,
+        key_length,
+    };
+    match list_entry::put_entry(settings, key, size, archive, offset, output) {
+        Put::Refused(r) => refused(r, answer),
+        Put::Bytes(bytes) => {
+            *answer = [bytes as u64, 0, 0, 0, 0, 0, 0, 0];
             0
         }
     }

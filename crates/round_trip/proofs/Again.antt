@@ -32,7 +32,8 @@ use Rattle.index_footer.proofs.Laws.{keys-begin, hashes-begin, index-ends, cont
 use Rattle.index_file.specs.File.{listAt, entriesIn, pageIn, lastKeyIn, pageHashIn, pages, lastKeys, pageHashes, fileOf}
 use Rattle.index_file.specs.Held.{Held}
 use Rattle.index_file.proofs.Parts.{page-full}
-use Rattle.writer.specs.Write.{listEntrySize, listCount, layoutFor, settingsRight, keyIn, listOrderCheck, writeCheck}
+use Rattle.writer.specs.Write.{listEntrySize, listCount, layoutFor, settingsRight, keyIn, listOrderCheck, inputCheck, writeCheck}
+use Rattle.writer.proofs.Laws.{room-left}
 use Rattle.round_trip.specs.Same.{contentsHashOf, withContentsHash, settingsOf}
 use Rattle.round_trip.proofs.Paged.{Same, keyOf, last-same, slot-order}
 
@@ -299,11 +300,12 @@ module _ (s : List ℕ) (bytes : (i : ℕ) → byteAt s i < 256) (e : fullCheck 
   few-again = omega (arith, entries-again-count, known .count)
 
   pub write-silent : (room : ℕ) → length s ≤ room → writeCheck (settingsOf (layoutOf s)) (listOf s) room ≡ silent
-  unfolding writeCheck
+  unfolding inputCheck
   write-silent room h =
       let fits : indexLength (layoutFor (settingsOf (layoutOf s)) (listOf s)) ≤ room = omega (arith, h, known .whole, ap indexLength layout-again) in
-      skip (quiet number.settings 0 refl (ap not right-again))
+      room-left (settingsOf (layoutOf s)) (listOf s) room
+      (skip (quiet number.settings 0 refl (ap not right-again))
       (skip (quiet number.list-length 0 refl (ap not (eq-eqb _ 0 whole-again)))
       (skip (quiet number.entry-count 0 refl (le-ltb mostEntries _ few-again))
-      (skip (from-silent (listOrderCheck (settingsOf (layoutOf s)) (listOf s)) 1 _ (λ i a b. entry-silent i a (omega (arith, b, entries-again-count))))
-      (quiet number.output-short 0 refl (le-ltb room _ fits)))))
+      (from-silent (listOrderCheck (settingsOf (layoutOf s)) (listOf s)) 1 _ (λ i a b. entry-silent i a (omega (arith, b, entries-again-count)))))))
+      fits

@@ -15,7 +15,7 @@ use Rattle.rising.proofs.Laws.{fall-check, fall-low}
 use Rattle.field.specs.Number.{within}
 use Rattle.index_layout.specs.Layout.{leastVersion, mostVersion, leastOffsetWidth, mostOffsetWidth, leastKeyLength, mostKeyLength, mostEntries, countCheck, indexLength}
 use Rattle.writer.specs.declared.Settings.{Settings}
-use Rattle.writer.specs.Write.{listEntrySize, listCount, layoutFor, settingsRight, settingsCheck, wholeCheck, keyIn, listOrderCheck, risingCheck, writeCheck}
+use Rattle.writer.specs.Write.{listEntrySize, listCount, layoutFor, settingsRight, settingsCheck, wholeCheck, keyIn, listOrderCheck, risingCheck, inputCheck, writeCheck}
 
 -- the settings, field by field
 module _ (s : Settings) where
@@ -32,19 +32,19 @@ module _ (s : Settings) where
   unfolding settingsRight
   key-left r v w k = rw (v, w) k
 
-module _ (s : Settings) (list : List ℕ) (room : ℕ) where
-  pub judged-11 : settingsRight s ≡ false → writeCheck s list room ≡ refused settings 0
-  unfolding writeCheck
+module _ (s : Settings) (list : List ℕ) where
+  pub judged-11 : settingsRight s ≡ false → inputCheck s list ≡ refused settings 0
+  unfolding inputCheck
   judged-11 e = first-said _ (said refl (ap not e))
 
   module _ (right : settingsRight s ≡ true) where
-    pub judged-12 : (length list % listEntrySize s ≡ 0 → ⊥) → writeCheck s list room ≡ refused list-length 0
-    unfolding writeCheck
+    pub judged-12 : (length list % listEntrySize s ≡ 0 → ⊥) → inputCheck s list ≡ refused list-length 0
+    unfolding inputCheck
     judged-12 h = skip (quiet settings 0 refl (ap not right)) (first-said _ (said refl (ap not (ne-eqb _ 0 h))))
 
     module _ (whole : length list % listEntrySize s ≡ 0) where
-      pub judged-4 : mostEntries < listCount s list → writeCheck s list room ≡ refused entry-count 0
-      unfolding writeCheck
+      pub judged-4 : mostEntries < listCount s list → inputCheck s list ≡ refused entry-count 0
+      unfolding inputCheck
       judged-4 h =
           skip (quiet settings 0 refl (ap not right)) (skip (quiet list-length 0 refl (ap not (eq-eqb _ 0 whole)))
           (first-said _ (said refl (lt-ltb mostEntries (listCount s list) h))))
@@ -61,9 +61,9 @@ module _ (s : Settings) (list : List ℕ) (room : ℕ) where
             skip (quiet settings 0 refl (ap not right)) (skip (quiet list-length 0 refl (ap not (eq-eqb _ 0 whole)))
             (skip (quiet entry-count 0 refl (le-ltb mostEntries (listCount s list) few)) e))
 
-        pub judged-8 : fall < listCount s list → writeCheck s list room ≡ refused index-order fall
-        unfolding writeCheck
-        judged-8 h = three _ (first-said _ (said rising-told (lt-ltb fall (1 + (listCount s list - 1)) (omega arith))))
+        pub judged-8 : fall < listCount s list → inputCheck s list ≡ refused index-order fall
+        unfolding inputCheck
+        judged-8 h = three _ (said rising-told (lt-ltb fall (1 + (listCount s list - 1)) (omega arith)))
 
         module _ (rises : listCount s list ≤ fall) where
           rising-quiet : risingCheck s list ≡ silent
@@ -71,10 +71,16 @@ module _ (s : Settings) (list : List ℕ) (room : ℕ) where
               let low = fall-low list (listEntrySize s) (s .«key_length») 1 (listCount s list - 1) in
               quiet index-order fall rising-told (le-ltb fall (1 + (listCount s list - 1)) (omega (arith, low, f)))
 
-          pub judged-13 : room < indexLength (layoutFor s list) → writeCheck s list room ≡ refused output-short 0
-          unfolding writeCheck
-          judged-13 h = three _ (skip rising-quiet (said refl (lt-ltb room (indexLength (layoutFor s list)) h)))
+          pub judged-none : inputCheck s list ≡ silent
+          unfolding inputCheck
+          judged-none = three _ rising-quiet
 
-          pub judged-none : indexLength (layoutFor s list) ≤ room → writeCheck s list room ≡ silent
-          unfolding writeCheck
-          judged-none h = three _ (skip rising-quiet (quiet output-short 0 refl (le-ltb room (indexLength (layoutFor s list)) h)))
+  -- then the room
+  module _ (room : ℕ) (right : inputCheck s list ≡ silent) where
+    pub no-room : room < indexLength (layoutFor s list) → writeCheck s list room ≡ refused output-short 0
+    unfolding writeCheck
+    no-room h = skip right (said refl (lt-ltb room (indexLength (layoutFor s list)) h))
+
+    pub room-left : indexLength (layoutFor s list) ≤ room → writeCheck s list room ≡ silent
+    unfolding writeCheck
+    room-left h = skip right (quiet output-short 0 refl (le-ltb room (indexLength (layoutFor s list)) h))

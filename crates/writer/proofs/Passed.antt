@@ -18,7 +18,7 @@ use Rattle.index_layout.specs.Layout.{leastVersion, mostVersion, leastOffsetWid
 use Rattle.index_layout.proofs.Laws.{per-page, size-low}
 use Rattle.field.proofs.Laws.{within-range}
 use Rattle.writer.specs.declared.Settings.{Settings}
-use Rattle.writer.specs.Write.{listEntrySize, listCount, layoutFor, settingsRight, settingsCheck, wholeCheck, keyIn, listOrderCheck, risingCheck, writeCheck}
+use Rattle.writer.specs.Write.{listEntrySize, listCount, layoutFor, settingsRight, settingsCheck, wholeCheck, keyIn, listOrderCheck, inputCheck, writeCheck}
 use Rattle.index_file.specs.Held.{Held}
 
 pub record Passed (s : Settings) (list : List ℕ) (room : ℕ) : Type 0 where
@@ -32,7 +32,7 @@ pub record Passed (s : Settings) (list : List ℕ) (room : ℕ) : Type 0 where
   pub rises : (i : ℕ) → 1 ≤ i → i < listCount s list → isBelow (compared (keyIn s list (i - 1)) (keyIn s list i)) ≡ true
   pub fits : indexLength (layoutFor s list) ≤ room
 
-right : (s : Settings) → settingsRight s ≡ true
+pub right : (s : Settings) → settingsRight s ≡ true
     → (s .version ≤ mostVersion)
     × (((leastOffsetWidth ≤ s .«offset_width») × (s .«offset_width» ≤ mostOffsetWidth)) × ((leastKeyLength ≤ s .«key_length») × (s .«key_length» ≤ mostKeyLength)))
 unfolding settingsRight
@@ -46,12 +46,13 @@ right s e =
     )
 
 pub passed : (s : Settings) (list : List ℕ) (room : ℕ) → writeCheck s list room ≡ silent → Passed s list room
-unfolding writeCheck listCount listOrderCheck
+unfolding inputCheck writeCheck listCount listOrderCheck
 passed s list room e =
-    let e1 = first-right (settingsCheck s) _ e in
+    let e0 = first-left (inputCheck s list) (roomCheck (indexLength (layoutFor s list)) room) e in
+    let e1 = first-right (settingsCheck s) _ e0 in
     let e2 = first-right (wholeCheck s list) _ e1 in
     let e3 = first-right (countCheck (listCount s list)) _ e2 in
-    let fields = right s (not-false _ (silent-test _ settings 0 (first-left (settingsCheck s) _ e))) in
+    let fields = right s (not-false _ (silent-test _ settings 0 (first-left (settingsCheck s) _ e0))) in
     let whole : length list % listEntrySize s ≡ 0 = eqb-true _ 0 (not-false _ (silent-test _ list-length 0 (first-left (wholeCheck s list) _ e1))) in
     record {
       version = fields .0;
@@ -63,8 +64,8 @@ passed s list room e =
       few = ltb-false mostEntries (listCount s list) (silent-test _ entry-count 0 (first-left (countCheck (listCount s list)) _ e2));
       rises = λ i a b.
           let j : 1 + (i - 1) ≡ i = omega arith in
-          not-false _ (silent-test _ index-order i (rw j at (from-each (listOrderCheck s list) 1 (listCount s list - 1) (first-left (risingCheck s list) _ e3) (i - 1) (omega arith))));
-      fits = ltb-false room (indexLength (layoutFor s list)) (silent-test _ output-short 0 (first-right (risingCheck s list) (roomCheck (indexLength (layoutFor s list)) room) e3));
+          not-false _ (silent-test _ index-order i (rw j at (from-each (listOrderCheck s list) 1 (listCount s list - 1) (e3) (i - 1) (omega arith))));
+      fits = ltb-false room (indexLength (layoutFor s list)) (silent-test _ output-short 0 (first-right (inputCheck s list) (roomCheck (indexLength (layoutFor s list)) room) e));
     }
 
 pub held : (s : Settings) (list : List ℕ) (room : ℕ) → Passed s list room → Held list (layoutFor s list)

@@ -56,9 +56,14 @@ listOrderCheck s list i = refusedIf (not (isBelow (compared (keyIn s list (i - 1
 abbrev pub risingCheck : Settings → List ℕ → Check
 risingCheck s list = firstFrom (listOrderCheck s list) 1 (listCount s list - 1)
 
+-- 11, 12, 4 and 8, in this order: what settings and list are refused for (rule I21).
+unfoldable pub inputCheck : Settings → List ℕ → Check
+inputCheck s list =
+    first (settingsCheck s) (first (wholeCheck s list) (first (countCheck (listCount s list)) (risingCheck s list)))
+
+-- Then 13 (rule I21).
 unfoldable pub writeCheck : Settings → List ℕ → ℕ → Check
-writeCheck s list room =
-    first (settingsCheck s) (first (wholeCheck s list) (first (countCheck (listCount s list)) (first (risingCheck s list) (roomCheck (indexLength (layoutFor s list)) room))))
+writeCheck s list room = first (inputCheck s list) (roomCheck (indexLength (layoutFor s list)) room)
 
 -- What writing tells: the bytes of the file (rule I22).
 unfoldable pub outcome : Written → Outcome
@@ -67,3 +72,7 @@ outcome (Refused r) = refusal (r .number) (r .place)
 
 abbrev pub writeOutcome : Settings → List ℕ → ℕ → Outcome
 writeOutcome s list room = after (writeCheck s list room) (answered (indexLength (layoutFor s list) ∷ []))
+
+-- The length of the file that a list gives, whatever the output (rule I26).
+abbrev pub lengthOutcome : Settings → List ℕ → Outcome
+lengthOutcome s list = after (inputCheck s list) (answered (indexLength (layoutFor s list) ∷ []))

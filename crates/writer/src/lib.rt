@@ -50,7 +50,8 @@ fn refuse(number: u32, place: usize) -> Checked
     Checked::Refused(Refusal { number, place })
 }
 
-fn settings_right(settings: Settings) -> bool
+// Whether version, offset width and key length are ones that an index may have.
+pub fn settings_right(settings: Settings) -> bool
     ensures { λ r. ⌜ r ≡ spec.settingsRight settings ⌝ }
 {
     let version = settings.version as u32;
@@ -65,9 +66,9 @@ fn settings_right(settings: Settings) -> bool
     within(key, LEAST_KEY_LENGTH as u32, MOST_KEY_LENGTH as u32)
 }
 
-// Refusals 11, 12, 4, 8 and 13, and the layout of the file.
-fn judge(settings: Settings, list: &[u8], room: usize) -> Checked
-    ensures { λ r. ⌜ check.outcome r ≡ after (spec.writeCheck settings (now (list .entry)) room) (answered (check.layoutValues (spec.layoutFor settings (now (list .entry))))) ⌝ }
+// Refusals 11, 12, 4 and 8, and the layout of the file.
+fn judge(settings: Settings, list: &[u8]) -> Checked
+    ensures { λ r. ⌜ check.outcome r ≡ after (spec.inputCheck settings (now (list .entry))) (answered (check.layoutValues (spec.layoutFor settings (now (list .entry))))) ⌝ }
 {
     if !settings_right(settings) {
         return refuse(SETTINGS, 0);
@@ -88,11 +89,7 @@ fn judge(settings: Settings, list: &[u8], room: usize) -> Checked
     if fall < count {
         return refuse(INDEX_ORDER, fall as usize);
     }
-    let l = Layout::new(version, offset_width, key_length, count);
-    if room < l.length() {
-        return refuse(OUTPUT_SHORT, 0);
-    }
-    Checked::Passed(l)
+    Checked::Passed(Layout::new(version, offset_width, key_length, count))
 }
 
 // The whole file, part by part.
@@ -112,11 +109,27 @@ pub fn write(settings: Settings, list: &[u8], output: &mut [u8]) -> Written
     ensures { λ r. ⌜ spec.outcome r ≡ spec.writeOutcome settings (now (list .entry)) (length (now (output .entry))) ⌝ }
     ensures { λ _. ⌜ now (output .exit) ≡ filled (spec.writeCheck settings (now (list .entry)) (length (now (output .entry)))) (fileOf (now (list .entry)) (spec.layoutFor settings (now (list .entry)))) (now (output .entry)) ⌝ }
 {
-    match judge(settings, list, output.len()) {
+    match judge(settings, list) {
         Checked::Refused(r) => Written::Refused(r),
         Checked::Passed(l) => {
+            if output.len() < l.length() {
+                return Written::Refused(Refusal {
+                    number: OUTPUT_SHORT,
+                    place: 0,
+                });
+            }
             write_file(list, l, output);
             Written::File(l.length())
         }
+    }
+}
+
+// The length of the file that a list gives.
+pub fn written_length(settings: Settings, list: &[u8]) -> Written
+    ensures { λ r. ⌜ spec.outcome r ≡ spec.lengthOutcome settings (now (list .entry)) ⌝ }
+{
+    match judge(settings, list) {
+        Checked::Refused(r) => Written::Refused(r),
+        Checked::Passed(l) => Written::File(l.length()),
     }
 }

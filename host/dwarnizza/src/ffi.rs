@@ -34,6 +34,19 @@ unsafe extern "C" {
 
     pub fn dwarnizza_index_check(index: *const u8, index_len: usize, answer: &mut [u64; 8]) -> u32;
 
+    pub fn dwarnizza_index_settings(
+        index: *const u8,
+        index_len: usize,
+        answer: &mut [u64; 8],
+    ) -> u32;
+
+    pub fn dwarnizza_index_entry(
+        index: *const u8,
+        index_len: usize,
+        number: u64,
+        answer: &mut [u64; 8],
+    ) -> u32;
+
     pub fn dwarnizza_index_list(
         index: *const u8,
         index_len: usize,
@@ -48,6 +61,29 @@ unsafe extern "C" {
         key_length: u8,
         list: *const u8,
         list_len: usize,
+        output: *mut u8,
+        output_len: usize,
+        answer: &mut [u64; 8],
+    ) -> u32;
+
+    pub fn dwarnizza_index_written_length(
+        version: u8,
+        offset_width: u8,
+        key_length: u8,
+        list: *const u8,
+        list_len: usize,
+        answer: &mut [u64; 8],
+    ) -> u32;
+
+    pub fn dwarnizza_list_put(
+        version: u8,
+        offset_width: u8,
+        key_length: u8,
+        key: *const u8,
+        key_len: usize,
+        size: u32,
+        archive: u32,
+        offset: u64,
         output: *mut u8,
         output_len: usize,
         answer: &mut [u64; 8],

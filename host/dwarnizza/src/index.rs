@@ -1,12 +1,16 @@
 //! Archive indexes: for each encoding key, its encoded size and location.
 
+mod entry;
 mod listing;
 mod lookup;
+mod put;
 mod write;
 
+pub use entry::{IndexEntry, unchecked_entry};
 pub use listing::{listing, listing_text};
 pub use lookup::{Entry, Lookup, Page, Slot, bound, lookup};
-pub use write::write;
+pub use put::put_entry;
+pub use write::{write, written_length};
 
 use crate::answer::answered;
 use crate::ffi;
@@ -23,6 +27,22 @@ pub struct Summary {
     pub pages: usize,
 }
 
+impl Summary {
+    /// The summary that an answer names.
+    fn from_words(words: [u64; 8]) -> Self {
+        let [version, offset_width, key_length, entries, pages, ..] = words;
+        Self {
+            settings: Settings {
+                version: setting(version),
+                offset_width: setting(offset_width),
+                key_length: setting(key_length),
+            },
+            entries: count(entries),
+            pages: count(pages),
+        }
+    }
+}
+
 /// The settings of an index.
 #[derive(Clone, Copy, Debug, PartialEq, Eq)]
 pub struct Settings {
@@ -32,22 +52,6 @@ pub struct Settings {
     pub offset_width: u8,
     /// How many bytes a key has: 1 to 16.
     pub key_length: u8,
-}
-
-impl Settings {
-    /// How many bytes an entry has: key, encoded size and location.
-    pub fn entry_len(self) -> usize {
-        usize::from(self.key_length) + 4 + usize::from(self.offset_width)
-    }
-
-    /// How many bytes the index of so many entries has. Settings and counts that [`write()`] refuses
-    /// have a length too, and one past all numbers is the highest.
-    pub fn index_len(self, entries: usize) -> usize {
-        let full = 4096 / self.entry_len();
-        let of_a_page = 4096 + usize::from(self.key_length) + 8;
-        let of_pages = entries.div_ceil(full).saturating_mul(of_a_page);
-        of_pages.saturating_add(28)
-    }
 }
 
 /// The full check of an index.
@@ -73,19 +77,32 @@ impl Settings {
 /// [`INDEX_ORDER`]: crate::refusal::INDEX_ORDER
 /// [`LAST_KEY`]: crate::refusal::LAST_KEY
 pub fn check(index: &[u8]) -> Result<Summary, Refusal> {
-    let [version, offset_width, key_length, entries, pages, ..] = answered(|answer| {
+    let words = answered(|answer| {
         // SAFETY: pointer and length are those of one slice.
         unsafe { ffi::dwarnizza_index_check(index.as_ptr(), index.len(), answer) }
     })?;
-    Ok(Summary {
-        settings: Settings {
-            version: setting(version),
-            offset_width: setting(offset_width),
-            key_length: setting(key_length),
-        },
-        entries: count(entries),
-        pages: count(pages),
-    })
+    Ok(Summary::from_words(words))
+}
+
+/// What the footer of an index says, by no more than the first five refusals of [`check`]: the pages
+/// are not looked at, and the time is the same for every index.
+///
+/// ```
+/// use dwarnizza::index;
+///
+/// // An index without entries, with keys of 16 bytes.
+/// let file = b"\xd4\x1d\x8c\xd9\x8f\x00\xb2\x04\x00\x00\x00\x04\x04\x04\x10\x08\
+///              \x00\x00\x00\x00\xe0\xe3\x87\xf2\x31\x42\x6f\xd1";
+/// let summary = index::unchecked_summary(file)?;
+/// assert_eq!((summary.settings.key_length, summary.entries), (16, 0));
+/// # Ok::<(), dwarnizza::Refusal>(())
+/// ```
+pub fn unchecked_summary(index: &[u8]) -> Result<Summary, Refusal> {
+    let words = answered(|answer| {
+        // SAFETY: pointer and length are those of one slice.
+        unsafe { ffi::dwarnizza_index_settings(index.as_ptr(), index.len(), answer) }
+    })?;
+    Ok(Summary::from_words(words))
 }
 
 /// Writes the list of an index, which is its entries' bytes in order with nothing between, to the
@@ -123,7 +140,7 @@ fn count(word: u64) -> usize {
 mod tests {
     use super::*;
     use crate::answer::UNWRITTEN;
-    use crate::refusal::{INDEX_ORDER, LIST_LENGTH, OUTPUT_SHORT};
+    use crate::refusal::{FOOTER_HASH, INDEX_ORDER, LIST_LENGTH, OUTPUT_SHORT};
 
     const LIST: [u8; 18] = [5, 0, 0, 0, 7, 0, 0, 0, 9, 6, 0, 0, 0, 8, 0, 0, 0, 7];
 
@@ -258,21 +275,39 @@ mod tests {
         assert_eq!(output, [0xee; 60]);
     }
 
+    /// The first five refusals alone decide: keys out of order pass.
     #[test]
-    fn lengths() {
+    fn the_settings_write_the_whole_answer() {
+        let call = |index: &[u8]| {
+            let mut answer = UNWRITTEN;
+            // SAFETY: pointer and length are those of one slice.
+            let result =
+                unsafe { ffi::dwarnizza_index_settings(index.as_ptr(), index.len(), &mut answer) };
+            (result, answer)
+        };
+        let mut bad = index_out_of_order();
+        assert_eq!(call(&bad), (0, [1, 4, 1, 2, 1, 0, 0, 0]));
+        let last = bad.len() - 1;
+        bad[last] ^= 1;
+        assert_eq!(call(&bad), refused(FOOTER_HASH, 0));
+    }
+
+    #[test]
+    fn each_call_of_the_written_length_writes_the_whole_answer() {
+        let call = |settings: Settings, list: &[u8]| {
+            let mut answer = UNWRITTEN;
+            let result = write::call_written_length(settings, list, &mut answer);
+            (result, answer)
+        };
+        assert_eq!(call(SETTINGS, &LIST), answer(index().len()));
+        assert_eq!(call(SETTINGS, &[]), answer(28));
+        assert_eq!(call(SETTINGS, &LIST[1..]), refused(LIST_LENGTH, 0));
         let wide = Settings {
             key_length: 16,
             ..SETTINGS
         };
-        assert_eq!(wide.entry_len(), 24);
-        let lengths = [0, 1, 170, 171].map(|entries| wide.index_len(entries));
-        assert_eq!(lengths, [28, 4148, 4148, 8268]);
-        let none = Settings {
-            version: 255,
-            offset_width: 255,
-            key_length: 255,
-        };
-        assert_eq!(none.index_len(7), 4096 + 255 + 8 + 28);
-        assert_eq!(none.index_len(usize::MAX), usize::MAX);
+        let zeros = [0; 171 * 24];
+        assert_eq!(call(wide, &zeros[..24]), answer(4148));
+        assert_eq!(call(wide, &zeros), refused(INDEX_ORDER, 1));
     }
 }

@@ -24,15 +24,26 @@ fn refused(number: u32, place: usize) -> Answer {
 /// The full check by the second program.
 fn second_check(file: &[u8]) -> Answer {
     let index = second::index::check(file).map_err(in_library_terms)?;
-    Ok(Summary {
+    Ok(summary_of(&index))
+}
+
+/// Refusals 1 to 5 and what the footer says, by the second program.
+fn second_summary(file: &[u8]) -> Answer {
+    let index = second::index::Index::open(file).map_err(in_library_terms)?;
+    Ok(summary_of(&index))
+}
+
+fn summary_of(index: &second::index::Index<'_>) -> Summary {
+    Summary {
         settings: in_library_settings(index.settings()),
         entries: index.entries(),
         pages: index.pages(),
-    })
+    }
 }
 
-fn list_len(summary: Summary) -> usize {
-    summary.entries * summary.settings.entry_len()
+/// How long the list of a file is that passes.
+fn list_len(file: &[u8]) -> Option<usize> {
+    Some(second::index::check(file).ok()?.list_len())
 }
 
 /// The list by the library into an output of this size, compared with the second program's.
@@ -50,7 +61,11 @@ fn compare_list(file: &[u8], room: usize) -> Result<Vec<u8>, Refusal> {
 fn expect(file: &[u8], answer: Answer) {
     assert_eq!(second_check(file), answer);
     assert_eq!(dwarnizza::index::check(file), answer);
-    let length = answer.map_or(100, list_len);
+    assert_eq!(
+        dwarnizza::index::unchecked_summary(file),
+        second_summary(file)
+    );
+    let length = list_len(file).unwrap_or(100);
     for room in [length.saturating_sub(1), length, length + 1, length + 1000] {
         let expected = match answer {
             Ok(_) if room < length => Err(refusal::OUTPUT_SHORT),
@@ -436,10 +451,14 @@ fn keys_are_compared_whole_and_unsigned() {
 fn compare(tally: &mut Tally, random: &mut Random, file: &[u8]) {
     let answer = second_check(file);
     assert_eq!(dwarnizza::index::check(file), answer);
+    assert_eq!(
+        dwarnizza::index::unchecked_summary(file),
+        second_summary(file)
+    );
     tally.add(&answer);
-    let room = match answer {
-        Ok(summary) => room(random, list_len(summary)),
-        Err(_) => random.up_to(5000),
+    let room = match list_len(file) {
+        Some(length) => room(random, length),
+        None => random.up_to(5000),
     };
     if compare_list(file, room).is_err() && answer.is_ok() {
         tally.add_refusal(refusal::OUTPUT_SHORT);

@@ -157,13 +157,6 @@ fn expect_to_say(entry: Entry, bytes: &[u8]) {
     let mut wide = [0; 8];
     wide[8 - location.len()..].copy_from_slice(location);
     assert_eq!(entry.location.to_be_bytes(), wide);
-    if let [archive @ .., _, _, _, _] = location
-        && archive.len() == 2
-    {
-        let parts = entry.archive_and_offset();
-        assert_eq!(parts.0.to_be_bytes(), archive);
-        assert_eq!(parts.1.to_be_bytes(), location[2..]);
-    }
 }
 
 /// All keys of one and of two bytes in indexes of one page and of several.

@@ -20,6 +20,9 @@ use second::index::{FOOTER, MOST_ENTRIES, Settings};
 /// The file by the library in an output of this size, compared with the second program's.
 #[track_caller]
 fn compare(settings: Settings, list: &[u8], room: usize) -> Result<Vec<u8>, Refusal> {
+    let length = second::index::written_length(settings, list).map_err(in_library_terms);
+    let told = dwarnizza::index::written_length(in_library_settings(settings), list);
+    assert_eq!(told, length);
     compare_outputs(
         room,
         |output| dwarnizza::index::write(in_library_settings(settings), list, output),
@@ -30,8 +33,8 @@ fn compare(settings: Settings, list: &[u8], room: usize) -> Result<Vec<u8>, Refu
 /// The file of a list that may be written, in outputs of all kinds.
 #[track_caller]
 fn written(settings: Settings, list: &[u8]) -> Vec<u8> {
-    let entries = list.len() / settings.entry_len();
-    let length = in_library_settings(settings).index_len(entries);
+    let length = dwarnizza::index::written_length(in_library_settings(settings), list)
+        .expect("the list may be written");
     let short = refusal_at(refusal::OUTPUT_SHORT, 0);
     assert_eq!(compare(settings, list, length - 1), Err(short));
     let file = compare(settings, list, length).expect("the list may be written");

@@ -1,15 +1,17 @@
 //! Archive indexes.
 
 mod check;
+mod entry;
 mod footer;
 mod listing;
 mod lookup;
 mod write;
 
 pub use check::{check, list};
+pub use entry::{Entry, entry, put_entry};
 pub use listing::{MOST_LISTED, listing, printed};
 pub use lookup::{Found, Lookup, bound, lookup};
-pub use write::write;
+pub use write::{write, written_length};
 
 use std::array;
 

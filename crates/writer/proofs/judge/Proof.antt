@@ -5,9 +5,8 @@ use Rattle.refusal.specs.Outcome.{answered}
 use Rattle.refusal.proofs.Laws.{after-said, after-quiet}
 use Rattle.index_open.specs.Open.{layoutValues, outcome}
 use Rattle.index_layout.specs.Layout as layout
-use Rattle.index_layout.specs.Layout.{indexLength}
 use Rattle.writer.specs.Write.{listEntrySize, listCount, layoutFor}
-use Rattle.writer.proofs.Laws.{judged-11, judged-12, judged-4, judged-8, judged-13, judged-none}
+use Rattle.writer.proofs.Laws.{judged-11, judged-12, judged-4, judged-8, judged-none}
 use borrow.Author.Needs.{needs}
 use Rattle.writer.proofs.judge.Statement.{statement}
 use Rattle.writer.proofs.judge.Tie as tie
@@ -23,7 +22,7 @@ returns c =
     let a = c .before .before .before .before .args in
     let s = a .settings in
     let t = a .list .now in
-    c .refuse .ensures ∙ sym (after-said _ (judged-11 s t (a .room) (sym (c .before .before .settings-right .ensures) ∙ not-true _ (c .before .if1 .taken))))
+    c .refuse .ensures ∙ sym (after-said _ (judged-11 s t (sym (c .before .before .settings-right .ensures) ∙ not-true _ (c .before .if1 .taken))))
 
 new-requires : tie.Need-new-requires
 new-requires c κs = search needs
@@ -44,7 +43,7 @@ returns-2 c =
     let s = a .settings in
     let t = a .list .now in
     let size : c .before .before .entry-size .result ≡ listEntrySize s = c .before .before .entry-size .ensures .0 ∙ ap layout.entrySize (c .before .before .before .new .ensures) in
-    c .refuse2 .ensures ∙ sym (after-said _ (judged-12 s t (a .room) (sym (c .before .before .before .before .before .settings-right .ensures) ∙ not-false _ (c .before .before .before .before .if1 .left)) (rw size at (c .before .if2 .taken))))
+    c .refuse2 .ensures ∙ sym (after-said _ (judged-12 s t (sym (c .before .before .before .before .before .settings-right .ensures) ∙ not-false _ (c .before .before .before .before .if1 .left)) (rw size at (c .before .if2 .taken))))
 
 div-entries : tie.Need-div-entries
 div-entries c = search needs
@@ -59,7 +58,7 @@ returns-3 c =
     let s = a .settings in
     let t = a .list .now in
     let size : c .before .before .before .entry-size .result ≡ listEntrySize s = c .before .before .before .entry-size .ensures .0 ∙ ap layout.entrySize (c .before .before .before .before .new .ensures) in
-    c .refuse3 .ensures ∙ sym (after-said _ (judged-4 s t (a .room) (sym (c .before .before .before .before .before .before .settings-right .ensures) ∙ not-false _ (c .before .before .before .before .before .if1 .left)) (rw size at (c .before .before .if2 .left)) (rw size at (c .before .if3 .taken))))
+    c .refuse3 .ensures ∙ sym (after-said _ (judged-4 s t (sym (c .before .before .before .before .before .before .settings-right .ensures) ∙ not-false _ (c .before .before .before .before .before .if1 .left)) (rw size at (c .before .before .if2 .left)) (rw size at (c .before .if3 .taken))))
 
 cast-count : tie.Need-cast-count
 cast-count c = search needs
@@ -83,37 +82,20 @@ returns-4 c =
     let s = a .settings in
     let t = a .list .now in
     let size : c .before .before .before .before .before .entry-size .result ≡ listEntrySize s = c .before .before .before .before .before .entry-size .ensures .0 ∙ ap layout.entrySize (c .before .before .before .before .before .before .new .ensures) in
-    c .refuse4 .ensures ∙ sym (after-said _ (judged-8 s t (a .room) (sym (c .before .before .before .before .before .before .before .before .settings-right .ensures) ∙ not-false _ (c .before .before .before .before .before .before .before .if1 .left)) (rw size at (c .before .before .before .before .if2 .left)) (rw size at (c .before .before .before .if3 .left)) (c .before .before .fall .result) (rw size at (c .before .before .fall .ensures)) (rw size at (c .before .if4 .taken))))
+    c .refuse4 .ensures ∙ sym (after-said _ (judged-8 s t (sym (c .before .before .before .before .before .before .before .before .settings-right .ensures) ∙ not-false _ (c .before .before .before .before .before .before .before .if1 .left)) (rw size at (c .before .before .before .before .if2 .left)) (rw size at (c .before .before .before .if3 .left)) (c .before .before .fall .result) (rw size at (c .before .before .fall .ensures)) (rw size at (c .before .if4 .taken))))
 
 new-requires-2 : tie.Need-new-requires-2
 new-requires-2 c κs = search needs
 
-length-requires : tie.Need-length-requires
-length-requires c κs = search needs
-
-refuse-requires-5 : tie.Need-refuse-requires-5
-refuse-requires-5 c κs = search needs
-
 returns-5 : tie.Need-returns-5
-unfolding listEntrySize listCount layoutFor
-returns-5 c =
-    let a = c .before .before .before .before .before .before .before .before .before .before .before .before .before .args in
-    let s = a .settings in
-    let t = a .list .now in
-    let size : c .before .before .before .before .before .before .before .before .entry-size .result ≡ listEntrySize s = c .before .before .before .before .before .before .before .before .entry-size .ensures .0 ∙ ap layout.entrySize (c .before .before .before .before .before .before .before .before .before .new .ensures) in
-    let room = c .before .before .length .ensures ∙ ap indexLength (rw size at (c .before .before .before .new2 .ensures)) in
-    c .refuse5 .ensures ∙ sym (after-said _ (judged-13 s t (a .room) (sym (c .before .before .before .before .before .before .before .before .before .before .before .settings-right .ensures) ∙ not-false _ (c .before .before .before .before .before .before .before .before .before .before .if1 .left)) (rw size at (c .before .before .before .before .before .before .before .if2 .left)) (rw size at (c .before .before .before .before .before .before .if3 .left)) (c .before .before .before .before .before .fall .result) (rw size at (c .before .before .before .before .before .fall .ensures)) (rw size at (c .before .before .before .before .if4 .left)) (rw room at (c .before .if5 .taken))))
-
-returns-6 : tie.Need-returns-6
 unfolding listEntrySize listCount layoutFor outcome
-returns-6 c =
-    let a = c .before .before .before .before .before .before .before .before .before .before .before .before .args in
+returns-5 c =
+    let a = c .before .before .before .before .before .before .before .before .before .before .args in
     let s = a .settings in
     let t = a .list .now in
-    let size : c .before .before .before .before .before .before .before .entry-size .result ≡ listEntrySize s = c .before .before .before .before .before .before .before .entry-size .ensures .0 ∙ ap layout.entrySize (c .before .before .before .before .before .before .before .before .new .ensures) in
-    let made = rw size at (c .before .before .new2 .ensures) in
-    let room = c .before .length .ensures ∙ ap indexLength made in
-    ap (λ l. answered (layoutValues l)) made ∙ sym (after-quiet _ (judged-none s t (a .room) (sym (c .before .before .before .before .before .before .before .before .before .before .settings-right .ensures) ∙ not-false _ (c .before .before .before .before .before .before .before .before .before .if1 .left)) (rw size at (c .before .before .before .before .before .before .if2 .left)) (rw size at (c .before .before .before .before .before .if3 .left)) (c .before .before .before .before .fall .result) (rw size at (c .before .before .before .before .fall .ensures)) (rw size at (c .before .before .before .if4 .left)) (rw room at (c .if5 .left))))
+    let size : c .before .before .before .before .before .entry-size .result ≡ listEntrySize s = c .before .before .before .before .before .entry-size .ensures .0 ∙ ap layout.entrySize (c .before .before .before .before .before .before .new .ensures) in
+    let made = rw size at (c .new2 .ensures) in
+    ap (λ l. answered (layoutValues l)) made ∙ sym (after-quiet _ (judged-none s t (sym (c .before .before .before .before .before .before .before .before .settings-right .ensures) ∙ not-false _ (c .before .before .before .before .before .before .before .if1 .left)) (rw size at (c .before .before .before .before .if2 .left)) (rw size at (c .before .before .before .if3 .left)) (c .before .before .fall .result) (rw size at (c .before .before .fall .ensures)) (rw size at (c .before .if4 .left))))
 
 pub judge-spec : {M : Type 1} → statement M
 judge-spec =
@@ -137,7 +119,4 @@ judge-spec =
     refuse-requires-4
     returns-4
     new-requires-2
-    length-requires
-    refuse-requires-5
-    returns-5
-    returns-6)
+    returns-5)

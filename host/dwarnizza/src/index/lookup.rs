@@ -43,7 +43,8 @@ pub struct Entry {
     pub slot: Slot,
     /// The encoded size.
     pub size: u32,
-    /// The location, as one number of as many bytes as the index's offset width.
+    /// The location, as one number of as many bytes as the index's offset width;
+    /// [`unchecked_entry`](super::unchecked_entry) tells archive number and offset.
     pub location: u64,
     /// How many stored keys were compared with the sought one.
     pub compared: u32,
@@ -60,12 +61,6 @@ impl Entry {
             location,
             compared: number(compared),
         }
-    }
-
-    /// The location as an archive number and an offset in that archive, which is what it holds
-    /// where the index has offset width 6.
-    pub fn archive_and_offset(self) -> (u16, u32) {
-        ((self.location >> 32) as u16, self.location as u32)
     }
 }
 
@@ -249,7 +244,6 @@ mod tests {
         };
         assert_eq!(found, Lookup::Found(entry));
         assert_eq!((found.found(), found.compared()), (Some(entry), 4));
-        assert_eq!(entry.archive_and_offset(), (0xa5a6, 0xa7a8_a9aa));
 
         let absent = lookup(&index, &[6]).unwrap();
         assert_eq!(absent, Lookup::Absent { compared: 4 });

@@ -7,6 +7,21 @@ use crate::refusal::{self, Refusal};
 /// Writes the index of this list with these settings into the output, and gives its length;
 /// refuses with 11, 12, 4, 8, 13 in this order.
 pub fn write(settings: Settings, list: &[u8], output: &mut [u8]) -> Result<usize, Refusal> {
+    let length = written_length(settings, list)?;
+    let file = output.get_mut(..length).ok_or(refusal::OUTPUT_TOO_SHORT)?;
+
+    let entries = list.len() / settings.entry_len();
+    let (contents, footer) = file.split_at_mut(length - FOOTER);
+    let (pages, table) = contents.split_at_mut(settings.pages(entries) * PAGE);
+    fill_pages(settings, list, pages);
+    fill_table(settings, entries, pages, table);
+    let contents_hash = first_8(table);
+    footer.copy_from_slice(&Footer { settings, entries }.bytes(contents_hash));
+    Ok(length)
+}
+
+/// The length of the file that this list gives; refuses with 11, 12, 4, 8 in this order.
+pub fn written_length(settings: Settings, list: &[u8]) -> Result<usize, Refusal> {
     if !settings.allowed() {
         return Err(refusal::SETTINGS);
     }
@@ -20,16 +35,7 @@ pub fn write(settings: Settings, list: &[u8], output: &mut [u8]) -> Result<usize
     if let Some(entry) = first_out_of_order(settings, list) {
         return Err(refusal::order(entry));
     }
-    let length = settings.file_len(entries);
-    let file = output.get_mut(..length).ok_or(refusal::OUTPUT_TOO_SHORT)?;
-
-    let (contents, footer) = file.split_at_mut(length - FOOTER);
-    let (pages, table) = contents.split_at_mut(settings.pages(entries) * PAGE);
-    fill_pages(settings, list, pages);
-    fill_table(settings, entries, pages, table);
-    let contents_hash = first_8(table);
-    footer.copy_from_slice(&Footer { settings, entries }.bytes(contents_hash));
-    Ok(length)
+    Ok(settings.file_len(entries))
 }
 
 /// The first entry whose key is not above the one before.

@@ -1,6 +1,6 @@
 -- `dwarnizza::indexes::dwarnizza_index_check`: what `index::check` answers, laid out.
 use mathlib.Core.Path.{sym, ap, _∙_}
-use Rattle.index_open.specs.Open.{layoutValues, outcome}
+use Rattle.index_open.specs.Open.{outcome}
 use Rattle.dwarnizza.specs.Answer.{result, answerWords}
 use borrow.Author.Needs.{needs}
 use Rattle.dwarnizza.proofs.indexes.dwarnizza_index_check.Statement.{statement}
@@ -18,20 +18,8 @@ refused-requires c κs = search needs
 enum-known-l : tie.Need-enum-known-l
 enum-known-l c = search needs
 
-cast-version : tie.Need-cast-version
-cast-version c = search needs
-
-cast-offset-width : tie.Need-cast-offset-width
-cast-offset-width c = search needs
-
-cast-key-length : tie.Need-cast-key-length
-cast-key-length c = search needs
-
-cast-entries : tie.Need-cast-entries
-cast-entries c = search needs
-
-cast-pages : tie.Need-cast-pages
-cast-pages c = search needs
+layout-words-requires : tie.Need-layout-words-requires
+layout-words-requires c κs = search needs
 
 returns : tie.Need-returns
 unfolding outcome
@@ -40,10 +28,10 @@ returns c =
     (c .refused .ensures .0 ∙ ap result e, c .refused .ensures .1 ∙ ap answerWords e)
 
 returns-2 : tie.Need-returns-2
-unfolding outcome layoutValues result answerWords
+unfolding outcome result
 returns-2 c =
-    let e = sym (ap outcome (c .before .before .before .before .before .before .before .l .given .1)) ∙ c .before .before .before .before .before .before .before .before .before .check .ensures in
-    (ap result e, ap answerWords e)
+    let e = sym (ap outcome (c .before .before .l .given .1)) ∙ c .before .before .before .before .check .ensures in
+    (ap result e, c .layout-words .ensures ∙ ap answerWords e)
 
 pub dwarnizza-index-check-spec : {M : Type 1} → statement M
 dwarnizza-index-check-spec =
@@ -53,10 +41,6 @@ dwarnizza-index-check-spec =
     enum-known-r
     refused-requires
     enum-known-l
-    cast-version
-    cast-offset-width
-    cast-key-length
-    cast-entries
-    cast-pages
+    layout-words-requires
     returns
     returns-2)
