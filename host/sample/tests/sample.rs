@@ -1,0 +1,59 @@
+//! The folder sample/ is what this program makes, and nothing else.
+
+use std::collections::BTreeMap;
+use std::fs;
+use std::path::{Path, PathBuf};
+
+/// What is written by hand.
+const BY_HAND: &str = "README.md";
+
+/// The repository's folder sample/.
+fn folder() -> PathBuf {
+    Path::new(env!("CARGO_MANIFEST_DIR")).join("../../sample")
+}
+
+/// All files of a folder and the folders in it, by their names relative to `top`.
+fn stored(top: &Path, folder: &Path, files: &mut BTreeMap<String, Vec<u8>>) {
+    for entry in fs::read_dir(folder).expect("the folder can be read") {
+        let path = entry.expect("its entries can be read").path();
+        if path.is_dir() {
+            stored(top, &path, files);
+        } else {
+            let name = path.strip_prefix(top).expect("it is in the folder");
+            let bytes = fs::read(&path).expect("the file can be read");
+            files.insert(name.to_str().expect("its name is text").to_string(), bytes);
+        }
+    }
+}
+
+#[test]
+fn the_folder_is_what_the_program_makes() {
+    let mut files = BTreeMap::new();
+    stored(&folder(), &folder(), &mut files);
+    assert!(files.remove(BY_HAND).is_some());
+    let made: BTreeMap<_, _> = sample::files().into_iter().collect();
+    assert!(files.keys().eq(made.keys()), "{:?}", files.keys());
+    for (name, bytes) in made {
+        assert!(files[&name] == bytes, "{name} differs");
+    }
+}
+
+#[test]
+fn every_file_passes_the_checks_of_the_second_program() {
+    for (name, bytes) in sample::files() {
+        if name.ends_with(".index") {
+            second::index::check(&bytes).unwrap_or_else(|refusal| panic!("{name}: {refusal:?}"));
+        }
+        if name.ends_with(".blte") || name.starts_with("loose/") {
+            let key = second::envelope::envelope_key(&bytes).expect("it is an envelope");
+            let content = second::envelope::open(&bytes, &key).expect("it opens");
+            if let Some(inner) = name.strip_suffix(".blte") {
+                assert!(fs::read(folder().join(inner)).expect("it is there") == content);
+            }
+        }
+    }
+    let read = |name: &str| fs::read(folder().join(name)).expect("it is there");
+    assert_eq!(second::root::check(&read("root-v1")), Ok(()));
+    assert_eq!(second::root::check(&read("root-v2")), Ok(()));
+    assert_eq!(second::encoding::check(&read("encoding")), Ok(()));
+}
