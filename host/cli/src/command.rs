@@ -1,157 +1,202 @@
-//! What all subcommands share.
+//! Commands and their arguments.
+//!
+//! A command names its options; the frame parses the arguments by them, answers `--help`, `-h` and
+//! `--version`, and hands the rest to `run`. `--json` is an option of every command. An option's
+//! value follows it (`--key 16`) or is joined to it (`--key=16`); after `--` all are operands, and
+//! `-` is an operand.
 
 use std::ffi::{OsStr, OsString};
-use std::fmt;
-use std::fs::{self, File};
-use std::io::{self, Read, Write};
-use std::process::ExitCode;
 
-use dwarnizza::Refusal;
+use crate::name::shown;
+use crate::output::Output;
+use crate::status::Failure;
 
-/// A subcommand.
+/// A command: one or two words, such as `md5` or `index check`.
 pub struct Command {
     pub name: &'static str,
-    /// Its arguments, as the usage shows them.
-    pub arguments: &'static str,
+    /// Its operands, as the usage shows them.
+    pub operands: &'static str,
     /// What it does, in one line.
     pub summary: &'static str,
-    pub run: fn(&[OsString]) -> Result<ExitCode, Error>,
+    pub options: &'static [Choice],
+    /// What `--help` says after the options: above all the lines that it prints.
+    pub help: &'static str,
+    pub run: fn(&Arguments, &mut Output) -> Result<(), Failure>,
 }
 
-/// Why a subcommand could not do what it was asked.
-pub enum Error {
-    Usage(String),
-    Read {
-        name: OsString,
-        error: io::Error,
-    },
-    Refused {
-        name: OsString,
-        refusal: Refusal,
-    },
-    /// This is not the text of a key of the index, which has so many digits.
-    KeyText {
-        text: OsString,
-        digits: usize,
-        refusal: Refusal,
-    },
-    /// A new file could not be made or filled.
-    Create {
-        name: OsString,
-        error: io::Error,
-    },
-    /// Standard output could not be written.
-    Write(io::Error),
+/// An option of a command.
+pub struct Choice {
+    /// With its dashes.
+    pub name: &'static str,
+    /// What its value is called, where it has one. With dots at the end, as in `FILE...`, the option
+    /// may be given several times.
+    pub value: Option<&'static str>,
+    pub summary: &'static str,
 }
 
-impl fmt::Display for Error {
-    fn fmt(&self, f: &mut fmt::Formatter<'_>) -> fmt::Result {
-        match self {
-            Error::Usage(what) => f.write_str(what),
-            Error::Read { name, error } => write!(f, "cannot read {}: {error}", name.display()),
-            Error::Refused { name, refusal } => write!(f, "{}: {refusal}", name.display()),
-            Error::KeyText {
-                text,
-                digits,
-                refusal,
-            } => write!(
-                f,
-                "{}: not a key of this index, which is {digits} hex digits: {refusal}",
-                text.display()
-            ),
-            Error::Create { name, error } => {
-                write!(f, "cannot write {}: {error}", name.display())
+impl Choice {
+    /// Whether it may be given several times.
+    fn many(&self) -> bool {
+        self.value.is_some_and(|value| value.ends_with("..."))
+    }
+}
+
+/// The option that every command has.
+pub const JSON: Choice = Choice {
+    name: "--json",
+    value: None,
+    summary: "print a JSON object for each line",
+};
+
+/// The arguments of a command, by its options.
+pub struct Arguments {
+    options: Vec<(&'static str, OsString)>,
+    pub operands: Vec<OsString>,
+    /// `--help` or `--version` was asked for.
+    pub asked: Option<Asked>,
+}
+
+#[derive(Clone, Copy, PartialEq, Eq)]
+pub enum Asked {
+    Help,
+    Version,
+}
+
+impl Arguments {
+    /// Parses what follows the command's name.
+    pub fn parse(command: &Command, arguments: &[OsString]) -> Result<Self, Failure> {
+        let mut parsed = Self {
+            options: Vec::new(),
+            operands: Vec::new(),
+            asked: None,
+        };
+        let mut rest = arguments.iter();
+        while let Some(argument) = rest.next() {
+            if argument == "--" {
+                parsed.operands.extend(rest.cloned());
+                break;
             }
-            Error::Write(error) => write!(f, "cannot write: {error}"),
+            if argument == "-" || !argument.as_encoded_bytes().starts_with(b"-") {
+                parsed.operands.push(argument.clone());
+            } else if let Some(asked) = asked(argument) {
+                parsed.asked = parsed.asked.or(Some(asked));
+            } else {
+                let (choice, value) = parse_option(command, argument, &mut rest)?;
+                if parsed.has(choice.name) && !choice.many() {
+                    return Err(Failure::usage(format!("{} is given twice", choice.name)));
+                }
+                parsed.options.push((choice.name, value));
+            }
+        }
+        Ok(parsed)
+    }
+
+    /// Whether this option is given.
+    pub fn has(&self, option: &str) -> bool {
+        self.value(option).is_some()
+    }
+
+    /// The value of this option; empty where it takes none.
+    pub fn value(&self, option: &str) -> Option<&OsStr> {
+        let mut options = self.options.iter();
+        let (_, value) = options.find(|(name, _)| *name == option)?;
+        Some(value)
+    }
+
+    /// The values of an option that may be given several times.
+    pub fn values(&self, option: &str) -> Vec<OsString> {
+        let options = self.options.iter().filter(|(name, _)| *name == option);
+        options.map(|(_, value)| value.clone()).collect()
+    }
+
+    /// The value of this option as a number of digits only, none with a leading zero but 0.
+    pub fn number<T: TryFrom<u64>>(&self, option: &str) -> Result<Option<T>, Failure> {
+        let Some(value) = self.value(option) else {
+            return Ok(None);
+        };
+        let number = decimal(value.as_encoded_bytes()).and_then(|number| T::try_from(number).ok());
+        let unfit = || Failure::usage(format!("{option} wants a number, not {}", shown(value)));
+        number.map(Some).ok_or_else(unfit)
+    }
+
+    /// The only operand.
+    pub fn one_operand(&self, what: &str) -> Result<&OsStr, Failure> {
+        match &self.operands[..] {
+            [] => Err(Failure::usage(format!("{what} is missing"))),
+            [operand] => Ok(operand),
+            [_, more, ..] => Err(Failure::usage(format!(
+                "there is one operand too many: {}",
+                shown(more)
+            ))),
         }
     }
-}
 
-/// Says an error on standard error.
-pub fn report(error: &Error) {
-    eprintln!("dwarnizza: {error}");
-}
-
-/// Whether this option is given, and the arguments without it. After `--` it is none.
-pub fn take_option(arguments: &[OsString], option: &str) -> (bool, Vec<OsString>) {
-    let end = arguments.iter().position(|argument| argument == "--");
-    let (options, rest) = arguments.split_at(end.unwrap_or(arguments.len()));
-    let others = options.iter().filter(|argument| *argument != option);
-    let given = options.iter().any(|argument| argument == option);
-    (given, others.chain(rest).cloned().collect())
-}
-
-/// The number that follows this option, which must be given once, and the arguments without both.
-/// After `--` it is none.
-pub fn take_number(arguments: &[OsString], option: &str) -> Result<(u8, Vec<OsString>), Error> {
-    let usage = |what: &str| Error::Usage(format!("{option} {what}"));
-    let end = arguments.iter().position(|argument| argument == "--");
-    let (options, _) = arguments.split_at(end.unwrap_or(arguments.len()));
-    let mut places = (0..options.len()).filter(|&place| options[place] == option);
-    let place = places.next().ok_or_else(|| usage("is missing"))?;
-    if places.next().is_some() {
-        return Err(usage("is given twice"));
-    }
-    let value = options.get(place + 1).and_then(|value| value.to_str());
-    let number = value.and_then(|value| value.parse().ok());
-    let number = number.ok_or_else(|| usage("wants a number from 0 to 255 after it"))?;
-    let others = [&arguments[..place], &arguments[place + 2..]].concat();
-    Ok((number, others))
-}
-
-/// The operands of a subcommand without other options. After `--` they may begin with a dash.
-pub fn operands(arguments: &[OsString]) -> Result<Vec<&OsStr>, Error> {
-    let mut operands = Vec::new();
-    let mut arguments = arguments.iter().map(OsString::as_os_str);
-    for argument in arguments.by_ref() {
-        if argument == "--" {
-            break;
+    /// All operands, of which there must be one.
+    pub fn some_operands(&self, what: &str) -> Result<&[OsString], Failure> {
+        if self.operands.is_empty() {
+            return Err(Failure::usage(format!("{what} is missing")));
         }
-        if argument != "-" && argument.as_encoded_bytes().starts_with(b"-") {
-            return Err(Error::Usage(format!("no option {}", argument.display())));
+        Ok(&self.operands)
+    }
+}
+
+/// Decimal digits without a leading zero, as a number of 64 bits.
+pub fn decimal(text: &[u8]) -> Option<u64> {
+    let plain =
+        text.iter().all(u8::is_ascii_digit) && (text.len() == 1 || text.first() != Some(&b'0'));
+    let text = str::from_utf8(text).ok()?;
+    if plain { text.parse().ok() } else { None }
+}
+
+/// What `--help`, `-h` or `--version` asks.
+pub fn asked(argument: &OsStr) -> Option<Asked> {
+    match argument.to_str()? {
+        "--help" | "-h" => Some(Asked::Help),
+        "--version" => Some(Asked::Version),
+        _ => None,
+    }
+}
+
+/// An option of the command, with its value.
+fn parse_option<'a>(
+    command: &Command,
+    argument: &OsStr,
+    rest: &mut impl Iterator<Item = &'a OsString>,
+) -> Result<(&'static Choice, OsString), Failure> {
+    let (name, joined) = split(argument);
+    let mut choices = command.options.iter().chain([&JSON]);
+    let Some(choice) = choices.find(|choice| name == choice.name) else {
+        return Err(Failure::usage(format!(
+            "there is no option {}",
+            shown(name)
+        )));
+    };
+    let value = match (choice.value, joined) {
+        (None, None) => OsString::new(),
+        (None, Some(_)) => return Err(Failure::usage(format!("{} takes no value", choice.name))),
+        (Some(_), Some(value)) => value,
+        (Some(what), None) => match rest.next() {
+            Some(value) => value.clone(),
+            None => {
+                return Err(Failure::usage(format!(
+                    "{} wants {what} after it",
+                    choice.name
+                )));
+            }
+        },
+    };
+    Ok((choice, value))
+}
+
+/// An argument before and after its first `=`.
+fn split(argument: &OsStr) -> (OsString, Option<OsString>) {
+    use std::os::unix::ffi::{OsStrExt, OsStringExt};
+    let bytes = argument.as_bytes();
+    let part = |part: &[u8]| OsString::from_vec(part.to_vec());
+    match bytes.iter().position(|&byte| byte == b'=') {
+        Some(place) if bytes.starts_with(b"--") => {
+            (part(&bytes[..place]), Some(part(&bytes[place + 1..])))
         }
-        operands.push(argument);
+        _ => (part(bytes), None),
     }
-    operands.extend(arguments);
-    Ok(operands)
-}
-
-/// The bytes of the file of this name; `-` is standard input.
-pub fn read(name: &OsStr) -> Result<Vec<u8>, Error> {
-    let bytes = if name == "-" {
-        let mut bytes = Vec::new();
-        io::stdin().lock().read_to_end(&mut bytes).map(|_| bytes)
-    } else {
-        fs::read(name)
-    };
-    bytes.map_err(|error| Error::Read {
-        name: name.to_owned(),
-        error,
-    })
-}
-
-/// The two operands of a subcommand that reads a file and makes a new one.
-pub fn file_and_out<'a>(command: &str, arguments: &'a [OsString]) -> Result<[&'a OsStr; 2], Error> {
-    let usage = |what: &str| Err(Error::Usage(format!("{command}: {what}")));
-    let [name, out] = operands(arguments)?[..] else {
-        return usage("one file and one new file are wanted");
-    };
-    if out == "-" {
-        return usage("the output goes into a new file, not to standard output");
-    }
-    Ok([name, out])
-}
-
-/// Makes a file that is not there yet. Where it cannot be filled, it does not stay.
-pub fn create(name: &OsStr, bytes: &[u8]) -> Result<(), Error> {
-    let failed = |error| Error::Create {
-        name: name.to_owned(),
-        error,
-    };
-    let mut file = File::create_new(name).map_err(failed)?;
-    file.write_all(bytes).map_err(|error| {
-        // What kept the file from being filled is the error to tell.
-        let _ = fs::remove_file(name);
-        failed(error)
-    })
 }

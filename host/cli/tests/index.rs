@@ -1,273 +1,512 @@
-//! `dwarnizza check`, `dwarnizza list` and `dwarnizza write`.
+//! `dwarnizza index` check, list, write, info and diff.
 
+mod forge;
 mod run;
 
-use std::fs;
+use std::fs::{self, File};
 use std::path::Path;
-use std::process::{Command, Output};
+use std::process::Command;
 
-use run::{dwarnizza, folder, output};
+use forge::{W4, W6, index, key, list};
+use run::{folder, held, put, run, run_in_2_gb, run_with};
 use second::index::Settings;
 
-/// A list of so many entries, with keys of 16 bytes and offsets of 4.
-fn list(entries: u32) -> Vec<u8> {
-    let mut list = Vec::new();
-    for number in 0..entries {
-        list.extend(u128::from(number).to_be_bytes());
-        list.extend((number * 3).to_be_bytes());
-        list.extend((number * 5).to_be_bytes());
-    }
-    list
-}
-
-/// The index of that list.
-fn index(entries: u32) -> Vec<u8> {
-    let settings = Settings {
-        version: 1,
-        offset_width: 4,
-        key_length: 16,
-    };
-    let mut index = vec![0; settings.file_len(entries as usize)];
-    second::index::write(settings, &list(entries), &mut index).expect("the list may be written");
-    index
-}
-
-fn text(bytes: &[u8]) -> String {
-    String::from_utf8(bytes.to_vec()).expect("the program writes text")
-}
-
-/// It prints nothing but this error, and fails with this status.
-fn assert_fails(output: &Output, error: &str, status: i32) {
-    let errors = text(&output.stderr);
-    assert!(errors.starts_with(error), "{errors}");
-    assert!(output.stdout.is_empty());
-    assert_eq!(output.status.code(), Some(status));
-}
-
-/// It prints nothing, and makes the new file `out` of these bytes.
 #[track_caller]
-fn assert_makes(command: Command, folder: &Path, input: &[u8], out: &str, bytes: &[u8]) {
-    let made = output(command, folder, input);
-    assert!(made.status.success());
-    assert!(made.stdout.is_empty() && made.stderr.is_empty());
-    assert_holds(folder, out, bytes);
-}
-
-#[track_caller]
-fn assert_holds(folder: &Path, name: &str, bytes: &[u8]) {
+fn holds(folder: &Path, name: &str, bytes: &[u8]) {
     let found = fs::read(folder.join(name)).expect("the file is there");
     assert!(found == bytes, "{name} is another file");
 }
 
 #[test]
-fn check_says_what_each_index_holds() {
-    let folder = folder("check");
-    for (name, entries) in [("none", 0), ("one", 1), ("two pages", 171)] {
-        fs::write(folder.join(name), index(entries)).expect("the file can be written");
-    }
-    let names = ["check", "none", "one", "two pages", "-"];
-    let checked = output(dwarnizza(names), &folder, &index(170));
-    assert_eq!(
-        text(&checked.stdout),
-        "none: index of 0 entries on 0 pages, key 16, offset 4, version 1\n\
-         one: index of 1 entry on 1 page, key 16, offset 4, version 1\n\
-         two pages: index of 171 entries on 2 pages, key 16, offset 4, version 1\n\
-         -: index of 170 entries on 1 page, key 16, offset 4, version 1\n"
+fn check_in_words_and_json() {
+    let folder = folder("index_check");
+    put(&folder, "good", index(W4, 171, 0));
+    let mut bad = index(W4, 171, 0);
+    bad[4096 + 5] ^= 1;
+    put(&folder, "bad", &bad);
+    let lines = "ok\tgood\t1\t4\t16\t171\t2\nrefused\tbad\t6\t1\n";
+    let words = "dwarnizza: bad: refused 6 at 1: page hash wrong (page 1); that page and what follows all pages stand at bytes 4096 to 8267: fetch";
+    run(&folder, ["index", "check", "good", "bad"]).expect(
+        2,
+        lines,
+        &[words, "2 indexes: 1 ok, 1 refused"],
     );
-    assert!(checked.stderr.is_empty());
-    assert!(checked.status.success());
-}
-
-#[test]
-fn check_names_each_bad_file_and_goes_on() {
-    let folder = folder("check_bad");
-    let mut bad = index(171);
-    bad[4096] ^= 1;
-    fs::write(folder.join("bad"), bad).expect("the file can be written");
-    fs::write(folder.join("short"), "no index").expect("the file can be written");
-    fs::write(folder.join("good"), index(1)).expect("the file can be written");
-    let names = ["check", "bad", "missing", "short", "good"];
-    let checked = output(dwarnizza(names), &folder, b"");
+    let json = run(&folder, ["index", "check", "--json", "good", "bad"]);
+    let objects: Vec<_> = json.lines.lines().collect();
     assert_eq!(
-        text(&checked.stdout),
-        "good: index of 1 entry on 1 page, key 16, offset 4, version 1\n"
+        objects[0],
+        r#"{"answer":"ok","file":"good","version":1,"W":4,"K":16,"entries":171,"pages":2}"#
     );
-    let errors = text(&checked.stderr);
-    let errors: Vec<_> = errors.lines().collect();
-    assert_eq!(errors.len(), 3, "{errors:?}");
+    assert!(objects[1].starts_with(
+        r#"{"answer":"refused","file":"bad","number":6,"place":1,"words":"bad: refused 6"#
+    ));
     assert_eq!(
-        errors[0],
-        "dwarnizza: bad: refused 6 at 1: page hash wrong (page 1)"
+        objects[2],
+        r#"{"answer":"summary","files":2,"ok":1,"refused":1,"failed":0,"misnamed":0,"outside":0}"#
     );
-    assert!(errors[1].starts_with("dwarnizza: cannot read missing: "));
-    assert_eq!(
-        errors[2],
-        "dwarnizza: short: refused 1: index under 28 bytes"
-    );
-    assert_eq!(checked.status.code(), Some(1));
+    assert_eq!(json.status, 2);
 }
 
+/// Every refusal says what it means and what to do.
 #[test]
-fn list_writes_the_entries_into_a_new_file() {
-    let folder = folder("list");
-    for entries in [0, 1, 171, 1000] {
-        let (name, out) = (format!("{entries}.index"), format!("{entries}.list"));
-        fs::write(folder.join(&name), index(entries)).expect("the file can be written");
-        let list_it = dwarnizza(["list", &name, &out]);
-        assert_makes(list_it, &folder, b"", &out, &list(entries));
-    }
-    let list_it = dwarnizza(["list", "-", "input.list"]);
-    assert_makes(list_it, &folder, &index(9), "input.list", &list(9));
-}
-
-#[test]
-fn list_overwrites_nothing() {
-    let folder = folder("list_existing");
-    fs::write(folder.join("index"), index(2)).expect("the file can be written");
-    fs::write(folder.join("there"), "kept").expect("the file can be written");
-    for out in ["there", "index", "."] {
-        let listed = output(dwarnizza(["list", "index", out]), &folder, b"");
-        assert_fails(&listed, &format!("dwarnizza: cannot write {out}: "), 1);
-    }
-    assert_holds(&folder, "there", b"kept");
-    assert_holds(&folder, "index", &index(2));
-}
-
-#[test]
-fn list_of_a_bad_index_makes_no_file() {
-    let folder = folder("list_bad");
-    let mut bad = index(2);
-    bad[4000] = 1;
-    fs::write(folder.join("bad"), bad).expect("the file can be written");
-    let listed = output(dwarnizza(["list", "bad", "out"]), &folder, b"");
-    let error = "dwarnizza: bad: refused 6 at 0: page hash wrong (page 0)\n";
-    assert_fails(&listed, error, 1);
-    let listed = output(dwarnizza(["list", "missing", "out"]), &folder, b"");
-    assert_fails(&listed, "dwarnizza: cannot read missing: ", 1);
-    assert!(!folder.join("out").exists());
-}
-
-/// `dwarnizza write` with these settings.
-fn write(name: &str, out: &str, [version, offset, key]: [&str; 3]) -> Command {
-    let arguments = format!("write --version {version} {name} {out} --offset {offset} --key {key}");
-    dwarnizza(arguments.split(' '))
-}
-
-/// The settings of `index`.
-const SETTINGS: [&str; 3] = ["1", "4", "16"];
-
-#[test]
-fn write_makes_the_index_of_a_list() {
-    let folder = folder("write");
-    for entries in [0, 1, 171, 1000] {
-        let out = format!("{entries}.index");
-        fs::write(folder.join("list"), list(entries)).expect("the file can be written");
-        let write_it = write("list", &out, SETTINGS);
-        assert_makes(write_it, &folder, b"", &out, &index(entries));
-    }
-    let write_it = write("-", "input.index", SETTINGS);
-    assert_makes(write_it, &folder, &list(9), "input.index", &index(9));
-}
-
-#[test]
-fn write_overwrites_nothing() {
-    let folder = folder("write_existing");
-    fs::write(folder.join("list"), list(2)).expect("the file can be written");
-    for out in ["list", "."] {
-        let failed = output(write("list", out, SETTINGS), &folder, b"");
-        assert_fails(&failed, &format!("dwarnizza: cannot write {out}: "), 1);
-    }
-    assert_holds(&folder, "list", &list(2));
-}
-
-#[test]
-fn write_of_a_bad_list_makes_no_file() {
-    let folder = folder("write_bad");
-    let mut falling = list(4);
-    falling[2 * 24 + 15] = 0;
-    fs::write(folder.join("falling"), falling).expect("the file can be written");
-    fs::write(folder.join("cut"), &list(4)[1..]).expect("the file can be written");
-    fs::write(folder.join("good"), list(4)).expect("the file can be written");
-    let settings = "dwarnizza: good: refused 11: settings wrong\n";
-    for (name, settings, error) in [
+fn words_of_refusals() {
+    let folder = folder("index_words");
+    let good = index(W4, 400, 0);
+    let end = good.len();
+    let with = |at: usize, byte: u8| {
+        let mut bytes = good.clone();
+        bytes[at] = byte;
+        bytes
+    };
+    // With the hash of page 1 of 3 set right again.
+    let rehashed = |at: usize, byte: u8| {
+        let mut bytes = with(at, byte);
+        let hash = second::md5::digest(&bytes[4096..2 * 4096]).expect("it is short");
+        let stored = 3 * (4096 + 16) + 8;
+        bytes[stored..stored + 8].copy_from_slice(&hash[..8]);
+        bytes
+    };
+    let cut_pages = [&good[4096..]].concat();
+    for (bytes, words) in [
         (
-            "falling",
-            SETTINGS,
-            "dwarnizza: falling: refused 8 at 2: key not above the one before (entry 2)\n",
+            b"".to_vec(),
+            "refused 1: index under 28 bytes; by its first bytes it is an empty file",
         ),
         (
-            "cut",
-            SETTINGS,
-            "dwarnizza: cut: refused 12: list not whole entries\n",
+            b"\x07short".to_vec(),
+            "refused 1: index under 28 bytes; it has 6 bytes: cut in download",
         ),
-        ("good", ["2", "4", "16"], settings),
-        ("good", ["1", "3", "16"], settings),
-        ("good", ["1", "4", "17"], settings),
-        ("good", ["255", "255", "255"], settings),
-        ("good", ["0", "0", "0"], settings),
-        ("missing", SETTINGS, "dwarnizza: cannot read missing: "),
+        (
+            good[..5000].to_vec(),
+            "refused 2: a footer field outside its list; its last 28 bytes are no footer",
+        ),
+        (with(end - 16, 0), "an index of loose files"),
+        (
+            b"BLTE and more of an envelope, so that it is long".to_vec(),
+            "by its first bytes it is a BLTE envelope",
+        ),
+        (
+            b"<html> of a server that has not got the file </html>".to_vec(),
+            "a page of HTML",
+        ),
+        (
+            b"EN\x01 and more of an encoding file, so that it is long".to_vec(),
+            "an encoding file",
+        ),
+        (
+            b"TSFM and more of a root file, so that it is long enough".to_vec(),
+            "a root file",
+        ),
+        (
+            b"\x1f\x8b and more of a packed file, so that it is long enough".to_vec(),
+            "a gzip file",
+        ),
+        (
+            with(end - 1, good[end - 1] ^ 1),
+            "refused 3: footer hash wrong; its last 28 bytes are damaged",
+        ),
+        (
+            cut_pages,
+            "refused 5: file length wrong; by its footer it has 12388 bytes, and 8292 were found",
+        ),
+        (
+            with(5000, 77),
+            "refused 6 at 1: page hash wrong (page 1); that page stands at bytes 4096 to 8191: fetch",
+        ),
+        (
+            rehashed(2 * 4096 - 1, 1),
+            "refused 7 at 1: padding not zero (page 1); that page stands at bytes 4096 to 8191: fetch",
+        ),
+        (
+            rehashed(4096 + 24 + 7, 0),
+            "refused 8 at 171: key not above the one before (entry 171); its key stands at bytes 4120 to 4135",
+        ),
+        (
+            with(3 * 4096 + 3, 77),
+            "refused 9 at 0: stored last key wrong (page 0); that page stands at bytes 0 to 4095, and its last key once more",
+        ),
     ] {
-        let failed = output(write(name, "out", settings), &folder, b"");
-        assert_fails(&failed, error, 1);
+        put(&folder, "index", bytes);
+        let refused = run(&folder, ["index", "check", "index"]);
+        assert!(
+            refused.errors.contains(words),
+            "{words}\n{}",
+            refused.errors
+        );
+        assert_eq!(refused.status, 2);
     }
-    assert!(!folder.join("out").exists());
 }
 
-/// What `list` takes out of an index, `write` makes the same index of.
+/// A file of 30 GB is refused without being read whole.
+#[test]
+fn judged_before_it_is_read() {
+    let folder = folder("index_large");
+    let file = File::create(folder.join("large")).expect("it can be made");
+    file.set_len(30_000_000_000).expect("it is sparse");
+    for command in ["check", "list", "info"] {
+        let refused = run_in_2_gb(&folder, ["index", command, "large"]);
+        assert_eq!(refused.status, 2, "{}", refused.errors);
+        assert!(refused.errors.contains("refused 2"), "{}", refused.errors);
+    }
+    use std::os::unix::fs::FileExt;
+    let good = index(W4, 171, 0);
+    let footer = &good[good.len() - 28..];
+    file.write_all_at(footer, 30_000_000_000 - 28)
+        .expect("it can be written");
+    let refused = run_in_2_gb(&folder, ["index", "check", "large"]);
+    refused.expect(
+        2,
+        "refused\tlarge\t5\t0\n",
+        &["30000000000 bytes or more, and no index has above 221000000"],
+    );
+    fs::remove_file(folder.join("large")).expect("it goes");
+}
+
+#[test]
+fn list_is_text() {
+    let folder = folder("index_list");
+    put(&folder, "four", index(W4, 2, 9));
+    let text = format!(
+        "index\tversion=1\toffset=4\tkey=16\tentries=2\n{}\t7\t-\t9\n{}\t10\t-\t14\n",
+        key(0),
+        key(1)
+    );
+    run(&folder, ["index", "list", "four"]).expect(0, &text, &[]);
+    run(&folder, ["index", "list", "four", "-o", "text"]).expect(0, "", &[]);
+    holds(&folder, "text", text.as_bytes());
+    put(&folder, "six", index(W6, 1, 0xa5a6_0000_0009));
+    let text = format!(
+        "index\tversion=1\toffset=6\tkey=16\tentries=1\n{}\t7\t42406\t9\n",
+        key(0)
+    );
+    run(&folder, ["index", "list", "six"]).expect(0, &text, &[]);
+    let json = run(&folder, ["index", "list", "six", "--json"]).lines;
+    assert!(json.ends_with(&format!(
+        "{{\"answer\":\"entry\",\"key\":\"{}\",\"size\":7,\"archive\":42406,\"offset\":9}}\n",
+        key(0)
+    )));
+    run(&folder, ["index", "list", "--raw", "four", "-o", "raw"]).expect(0, "", &[]);
+    holds(&folder, "raw", &list(W4, 2, 9));
+    run_with(&folder, ["index", "list", "-"], b"short").expect(2, "", &["refused 1"]);
+}
+
+/// What `list` says, `write` makes the same index of: every width, many key lengths, any size.
 #[test]
 fn list_then_write() {
-    let folder = folder("list_then_write");
-    fs::write(folder.join("index"), index(500)).expect("the file can be written");
-    let list_it = dwarnizza(["list", "index", "list"]);
-    assert_makes(list_it, &folder, b"", "list", &list(500));
-    let write_it = write("list", "again", SETTINGS);
-    assert_makes(write_it, &folder, b"", "again", &index(500));
+    let folder = folder("index_round");
+    for (offset_width, key_length, entries) in
+        [(4, 16, 0), (5, 9, 300), (6, 16, 5000), (4, 12, 171)]
+    {
+        let settings = Settings {
+            version: 1,
+            offset_width,
+            key_length,
+        };
+        let mut entries = list(settings, entries, 3);
+        if key_length < 16 {
+            // Keys that rise by their last bytes.
+            let length = settings.entry_len();
+            for (number, entry) in (0_u32..).zip(entries.chunks_mut(length)) {
+                entry[..usize::from(key_length)].fill(0);
+                entry[..4].copy_from_slice(&number.to_be_bytes());
+            }
+        }
+        let file = forge::of_list(settings, &entries);
+        put(&folder, "index", &file);
+        run(&folder, ["index", "list", "index", "-o", "text", "--force"]).expect(0, "", &[]);
+        let name = forge::name(&file);
+        let line = format!("written\tagain\t{}\t{name}\n", file.len());
+        let write = ["index", "write", "text", "-o", "again", "--force"];
+        assert_eq!(run(&folder, write).lines, line);
+        holds(&folder, "again", &file);
+        let [v, w, k] = [1, offset_width, key_length].map(|setting| setting.to_string());
+        run(
+            &folder,
+            ["index", "list", "--raw", "index", "-o", "raw", "--force"],
+        )
+        .expect(0, "", &[]);
+        let raw = [
+            "index",
+            "write",
+            "--raw",
+            "raw",
+            "-o",
+            "again",
+            "--force",
+            "--index-version",
+            &v,
+            "--offset",
+            &w,
+            "--key",
+            &k,
+        ];
+        run(&folder, raw).expect(0, &line, &[]);
+        holds(&folder, "again", &file);
+    }
+}
+
+/// A list that is cut, or whose lines do not fit its settings, makes no file.
+#[test]
+fn write_refuses_other_lists() {
+    let folder = folder("index_bad_lists");
+    let first = "index\tversion=1\toffset=4\tkey=16\tentries=2\n";
+    let (one, two) = (
+        format!("{}\t7\t-\t9\n", key(0)),
+        format!("{}\t7\t-\t9\n", key(1)),
+    );
+    let six = first.replace("offset=4", "offset=6");
+    for (list, words) in [
+        (String::new(), "line 1: the list is empty"),
+        (one.clone(), "line 1: a list begins with `index`"),
+        (
+            first.replace("key=16", "key=16 "),
+            "line 1: a list begins with",
+        ),
+        (
+            first.replace("version=1", "version=2") + &one + &two,
+            "refused 11: the version is 0 or 1, not 2",
+        ),
+        (
+            first.replace("offset=4", "offset=7") + &one + &two,
+            "refused 11: the offset width is 4, 5 or 6, not 7",
+        ),
+        (
+            first.replace("key=16", "key=15") + &one + &two,
+            "has 32 characters, a key has 30",
+        ),
+        (
+            first.to_string() + &one,
+            "the list is cut: its first line says 2 entries, and it has 1",
+        ),
+        (
+            first.to_string() + &one + &two[..36],
+            "line 3: it does not end in a line feed: the list is cut",
+        ),
+        (
+            first.to_string() + &one + &two + &two,
+            "line 4: the first line says 2 entries, and here is one more",
+        ),
+        (
+            first.to_string() + &two + &one,
+            "refused 8 at 1: key not above the one before (entry 1); line 3 of the list",
+        ),
+        (
+            first.to_string() + &one + &two.replace("\t-\t", "\t0\t"),
+            "line 3: offset width 4 has - for the archive",
+        ),
+        (
+            first.to_string() + &one + &two.replace("\t9", "\t4294967296"),
+            "line 3: refused 11",
+        ),
+        (
+            first.to_string() + &one + &two.replace("\t7", "\t4294967296"),
+            "line 3: 4294967296 is above any size",
+        ),
+        (
+            first.to_string() + &one + &two.replace("\t9", "\t09"),
+            "line 3: \"09\" is no offset",
+        ),
+        (
+            first.to_string() + &one + &two[1..],
+            "line 3: \"000000000000001",
+        ),
+        (
+            six.clone() + &one + &two,
+            "line 2: offset width 6 wants an archive number",
+        ),
+        (
+            six + &one.replace("\t-\t", "\t65536\t") + &two,
+            "line 2: refused 11",
+        ),
+        (
+            first.replace("entries=2", "entries=8388609"),
+            "refused 4: more than 8,388,608 entries",
+        ),
+    ] {
+        put(&folder, "list", &list);
+        run(&folder, ["index", "write", "list", "-o", "out"]).expect(2, "", &[words]);
+    }
+    put(&folder, "raw", forge::list(W4, 4, 0));
+    let raw = [
+        "index",
+        "write",
+        "--raw",
+        "raw",
+        "-o",
+        "out",
+        "--index-version=1",
+        "--offset=5",
+    ];
+    run(&folder, raw.iter().chain(&["--key=16"])).expect(
+        2,
+        "",
+        &["refused 12: list not whole entries; it has 96 bytes"],
+    );
+    run(&folder, raw.iter().chain(&["--key=17"])).expect(
+        2,
+        "",
+        &["refused 11: settings wrong; the key length is 1 to 16, not 17"],
+    );
+    assert_eq!(held(&folder), ["list", "raw"]);
+}
+
+/// An existing file stays unless `--force`, and no other file is left.
+#[test]
+fn output_files() {
+    let folder = folder("index_output");
+    put(&folder, "index", index(W4, 2, 0));
+    put(&folder, "old", "old");
+    let list = ["index", "list", "index", "-o", "old"];
+    run(&folder, list).expect(
+        3,
+        "",
+        &["cannot write old: it is there already; --force replaces it"],
+    );
+    holds(&folder, "old", b"old");
+    run(&folder, list.iter().chain(&["--force"])).expect(0, "", &[]);
+    assert!(
+        fs::read(folder.join("old"))
+            .expect("it is there")
+            .starts_with(b"index\tversion=1")
+    );
+    run(&folder, ["index", "list", "index", "-o", "no/such/folder"]).expect(
+        3,
+        "",
+        &["cannot write no/such/folder: "],
+    );
+    run(&folder, ["index", "list", "index", "-o", ".", "--force"]).expect(
+        3,
+        "",
+        &["cannot write .: "],
+    );
+    run(&folder, ["index", "list", "index", "-o", "new"]).expect(0, "", &[]);
+    assert_eq!(held(&folder), ["index", "new", "old"]);
+}
+
+/// Runs the program where files may have so few blocks: it is killed by a signal at the first write
+/// above them, or that write fails where the signal is ignored.
+fn limited(folder: &Path, before: &str) -> (Option<i32>, String) {
+    let program = env!("CARGO_BIN_EXE_dwarnizza");
+    let line = format!("{before} ulimit -f 8; exec '{program}' index list index -o out");
+    let mut shell = Command::new("sh");
+    let output = shell.args(["-c", &line]).current_dir(folder).output();
+    let output = output.expect("the shell runs");
+    let words = String::from_utf8_lossy(&output.stderr).into_owned();
+    (output.status.code(), words)
+}
+
+/// A killed run leaves no file under the final name.
+#[test]
+fn a_killed_run_leaves_no_file() {
+    let folder = folder("index_killed");
+    put(&folder, "index", index(W4, 20_000, 0));
+    assert_eq!(limited(&folder, "").0, None);
+    assert!(!folder.join("out").exists());
+}
+
+/// A run that cannot write leaves no file at all.
+#[test]
+fn a_failed_run_leaves_nothing() {
+    let folder = folder("index_failed");
+    put(&folder, "index", index(W4, 20_000, 0));
+    let (status, words) = limited(&folder, "trap '' XFSZ;");
+    assert!(
+        words.starts_with("dwarnizza: cannot write out: "),
+        "{words}"
+    );
+    assert_eq!(status, Some(3));
+    assert_eq!(held(&folder), ["index"]);
+}
+
+/// What is no file is never replaced.
+#[test]
+fn devices_stay() {
+    let folder = folder("index_device");
+    put(&folder, "index", index(W4, 2, 0));
+    std::os::unix::fs::symlink("/dev/null", folder.join("null")).expect("it can be linked");
+    run(&folder, ["index", "list", "index", "-o", "null", "--force"]).expect(
+        3,
+        "",
+        &["it is no file"],
+    );
+    assert!(folder.join("null").is_symlink());
+}
+
+/// A rewritten index says when its name has changed.
+#[test]
+fn a_changed_name_is_said() {
+    let folder = folder("index_renamed");
+    let old = index(W4, 2, 0);
+    let file = format!("{}.index", forge::name(&old));
+    put(&folder, &file, &old);
+    put(&folder, "new", index(W4, 3, 0));
+    run(&folder, ["index", "list", "new", "-o", "list"]).expect(0, "", &[]);
+    let name = forge::name(&index(W4, 3, 0));
+    let written = run(&folder, ["index", "write", "list", "-o", &file, "--force"]);
+    let changed = format!(
+        "the MD5 of its footer was {} and is {name}",
+        forge::name(&old)
+    );
+    let by_footer = format!("by its footer its name is {name}.index, and not {file}");
+    written.expect(
+        0,
+        &format!("written\t{file}\t4148\t{name}\n"),
+        &[&changed, &by_footer],
+    );
+    run(
+        &folder,
+        ["index", "write", "list", "-o", &format!("{name}.index")],
+    )
+    .expect(0, &format!("written\t{name}.index\t4148\t{name}\n"), &[]);
 }
 
 #[test]
-fn wrong_arguments() {
-    let folder = folder("index_arguments");
-    let wanted = "dwarnizza: list: one file and one new file are wanted\n";
-    let number = "dwarnizza: --version wants a number from 0 to 255 after it\n";
-    for (arguments, error) in [
-        ("check", "dwarnizza: check: a file is missing\n"),
-        ("check -x", "dwarnizza: no option -x\n"),
-        ("list", wanted),
-        ("list index", wanted),
-        ("list index out more", wanted),
-        (
-            "list index -",
-            "dwarnizza: list: the output goes into a new file, not to standard output\n",
-        ),
-        ("write", "dwarnizza: --version is missing\n"),
-        (
-            "write list out --version 1 --offset 4",
-            "dwarnizza: --key is missing\n",
-        ),
-        (
-            "write --key 1 --version 1 -- --offset 4",
-            "dwarnizza: --offset is missing\n",
-        ),
-        (
-            "write --version 1 --version 1",
-            "dwarnizza: --version is given twice\n",
-        ),
-        ("write list out --version", number),
-        ("write list out --version 256", number),
-        ("write list out --version -1", number),
-        ("write list out --version one", number),
-        ("write list out --version -- 1", number),
-        (
-            "write list --version 1 --offset 4 --key 16",
-            "dwarnizza: write: one file and one new file are wanted\n",
-        ),
-        (
-            "write list - --version 1 --offset 4 --key 16",
-            "dwarnizza: write: the output goes into a new file, not to standard output\n",
-        ),
-    ] {
-        let failed = output(dwarnizza(arguments.split(' ')), &folder, b"");
-        assert_fails(&failed, error, 2);
-        assert!(text(&failed.stderr).contains("usage: dwarnizza"));
-    }
+fn info() {
+    let folder = folder("index_info");
+    put(&folder, "index", index(W6, 158, 0));
+    put(&folder, "none", index(W4, 0, 0));
+    let [name, none] = [index(W6, 158, 0), index(W4, 0, 0)].map(|index| forge::name(&index));
+    let lines = format!(
+        "info\tindex\t1\t6\t16\t158\t2\t8268\t{name}\t{}\t{}\t11\ninfo\tnone\t1\t4\t16\t0\t0\t28\t{none}\t-\t-\t9\n",
+        key(0),
+        key(157)
+    );
+    run(&folder, ["index", "info", "index", "none"]).expect(0, &lines, &[]);
+}
+
+#[test]
+fn diff() {
+    let folder = folder("index_diff");
+    let entries = list(W4, 6, 0);
+    let mut changed = entries.clone();
+    changed[4 * 24 + 19] ^= 1;
+    changed.drain(24..48);
+    put(&folder, "old", forge::of_list(W4, &entries[..5 * 24]));
+    put(&folder, "new", forge::of_list(W4, &changed));
+    let lines = format!(
+        "removed\t{}\t10\t-\t5\nchanged\t{}\t19\t-\t20\t18\t-\t20\nadded\t{}\t22\t-\t25\n",
+        key(1),
+        key(4),
+        key(5)
+    );
+    run(&folder, ["index", "diff", "old", "new"]).expect(
+        1,
+        &lines,
+        &["1 removed, 1 added, 1 changed"],
+    );
+    run(&folder, ["index", "diff", "old", "old"]).expect(0, "", &["0 removed, 0 added, 0 changed"]);
+    let short = Settings {
+        key_length: 1,
+        ..W4
+    };
+    put(
+        &folder,
+        "short",
+        forge::of_list(short, &[5, 0, 0, 0, 7, 0, 0, 0, 9]),
+    );
+    run(&folder, ["index", "diff", "old", "short"]).expect(
+        2,
+        "",
+        &["their entries cannot be compared"],
+    );
 }

@@ -67,7 +67,7 @@ fn a_file_that_cannot_be_read_is_named_and_the_others_go_on() {
     fs::write(folder.join("there"), "abc").expect("the file can be written");
     let ours = output(dwarnizza(["md5", "missing", ".", "there"]), &folder, b"");
     assert_eq!(ours.stdout, b"900150983cd24fb0d6963f7d28e17f72  there\n");
-    assert_eq!(ours.status.code(), Some(1));
+    assert_eq!(ours.status.code(), Some(3));
     let errors = String::from_utf8(ours.stderr).expect("errors are text");
     let errors: Vec<_> = errors.lines().collect();
     assert_eq!(errors.len(), 2, "{errors:?}");
@@ -76,18 +76,56 @@ fn a_file_that_cannot_be_read_is_named_and_the_others_go_on() {
 }
 
 #[test]
-fn wrong_arguments() {
-    let folder = folder("wrong_arguments");
-    for (arguments, error) in [
-        (&[][..], "dwarnizza: a command is missing\n"),
-        (&["md6"], "dwarnizza: no command md6\n"),
-        (&["md5", "-x"], "dwarnizza: no option -x\n"),
-    ] {
-        let ours = output(dwarnizza(arguments), &folder, b"");
-        let errors = String::from_utf8(ours.stderr).expect("errors are text");
-        assert!(errors.starts_with(error), "{errors}");
-        assert!(errors.contains("usage: dwarnizza"), "{errors}");
-        assert!(ours.stdout.is_empty());
-        assert_eq!(ours.status.code(), Some(2));
+fn lists_are_checked() {
+    let folder = folder("md5_lists");
+    let names = ["plain", "back\\slash", "line\nfeed", "tab\there"];
+    for name in names {
+        fs::write(folder.join(name), name).expect("the file can be written");
     }
+    let list = output(dwarnizza(["md5"].iter().chain(&names)), &folder, b"").stdout;
+    let ours = output(dwarnizza(["md5", "-c"]), &folder, &list);
+    let ok = "ok\tplain\nok\tback\\\\slash\nok\tline\\nfeed\nok\ttab\\there\n";
+    assert_eq!(String::from_utf8_lossy(&ours.stdout), ok);
+    assert!(ours.status.success() && ours.stderr.is_empty());
+
+    let theirs = output(md5sum(&names[..3]), &folder, b"").stdout;
+    let ours = output(dwarnizza(["md5", "-c", "-"]), &folder, &theirs);
+    assert!(ours.status.success());
+}
+
+#[test]
+fn a_list_tells_what_differs_what_is_missing_and_what_is_no_line() {
+    let folder = folder("md5_differs");
+    fs::write(folder.join("there"), "abc").expect("the file can be written");
+    let digest = "900150983cd24fb0d6963f7d28e17f72";
+    let other = "00000000000000000000000000000000";
+    let list = format!(
+        "{digest}  there\n{other} *there\nno line\n{}  there\n",
+        &digest[1..]
+    );
+    let ours = output(dwarnizza(["md5", "-c"]), &folder, list.as_bytes());
+    let answers = format!("ok\tthere\ndiffers\tthere\t{digest}\t{other}\n");
+    assert_eq!(String::from_utf8_lossy(&ours.stdout), answers);
+    let errors = String::from_utf8(ours.stderr).expect("errors are text");
+    assert!(
+        errors.contains("-: line 3 is not a digest of 32 hex digits"),
+        "{errors}"
+    );
+    assert!(errors.contains("-: line 4 is not"), "{errors}");
+    assert_eq!(ours.status.code(), Some(2));
+
+    let list = format!("{digest}  missing\n");
+    let ours = output(dwarnizza(["md5", "-c"]), &folder, list.as_bytes());
+    assert_eq!(ours.stdout, b"failed\tmissing\n");
+    assert_eq!(ours.status.code(), Some(3));
+}
+
+#[test]
+fn json() {
+    let folder = folder("md5_json");
+    fs::write(folder.join("a\"b"), "abc").expect("the file can be written");
+    let ours = output(dwarnizza(["md5", "--json", "a\"b"]), &folder, b"");
+    let line =
+        "{\"answer\":\"ok\",\"file\":\"a\\\"b\",\"digest\":\"900150983cd24fb0d6963f7d28e17f72\"}\n";
+    assert_eq!(String::from_utf8_lossy(&ours.stdout), line);
 }
