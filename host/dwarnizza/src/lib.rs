@@ -7,13 +7,13 @@ mod answer;
 pub mod chain;
 pub mod encoding;
 pub mod envelope;
-mod ffi;
 pub mod index;
 mod key;
 mod md5;
 pub mod refusal;
 pub mod root;
 
+use dwarnizza_sys as ffi;
 pub use key::Key;
 pub use md5::{Md5, md5};
 pub use refusal::{Link, Refusal};

@@ -27,7 +27,7 @@ fn main() {
     }
 }
 
-/// The repository, of which this package is host/dwarnizza.
+/// The repository, of which this package is host/sys.
 fn repository() -> PathBuf {
     let package = env::var_os("CARGO_MANIFEST_DIR").expect("cargo names the package's folder");
     let repository = Path::new(&package).ancestors().nth(2);

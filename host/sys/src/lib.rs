@@ -1,4 +1,6 @@
-//! The exports of libdwarnizza.a, as `include/dwarnizza.h` has them.
+//! The exports of libdwarnizza.a, as `include/dwarnizza.h` declares them and says what they do.
+
+#![allow(missing_docs, reason = "the header has the words")]
 
 unsafe extern "C" {
     pub fn dwarnizza_md5(
