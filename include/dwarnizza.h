@@ -196,6 +196,43 @@ uint32_t dwarnizza_index_entry(const uint8_t *index, size_t index_len,
                                uint64_t number, uint64_t answer[8]);
 
 /*
+ * What the footer of an index says, by 1 to 4 of the full check alone: the
+ * length is not judged, so that the last 28 bytes of a file are enough. It is
+ * no check of the index.
+ * Answered: answer[0] is the version, [1] W, [2] K, [3] n, [4] P, [5] the
+ * length of the whole file that has this footer, [6] the length of the footer,
+ * 28.
+ * Refused: 1 to 4 as the full check refuses.
+ */
+uint32_t dwarnizza_index_footer(const uint8_t *index, size_t index_len,
+                                uint64_t answer[8]);
+
+/*
+ * Whether the last 28 bytes are the footer of an index of loose files or of
+ * patches, which is no archive index: the offset width is 0, every other field
+ * is one that the footer of an archive index may have, and the footer hash is
+ * right. The full check refuses such a file with 2. Nothing else is judged.
+ * Answered: they are; no word of the answer is named.
+ * Absent: they are not, or there are fewer than 28; no word of the answer is
+ * named.
+ */
+uint32_t dwarnizza_index_loose(const uint8_t *index, size_t index_len,
+                               uint64_t answer[8]);
+
+/*
+ * Where a page of an index and its parts stand, by 1 to 5 of the full check
+ * alone. Places are byte offsets in the index, lengths are in bytes.
+ * Answered: answer[0] is the place of the page, [1] its length, 4,096, [2] the
+ * place of its stored last key, [3] the length of that, K, [4] the place of its
+ * stored hash, [5] the length of that, 8, [6] the number of its first entry,
+ * [7] how many entries it has.
+ * Absent: page is P or more; no word of the answer is named.
+ * Refused: 1 to 5 as the full check refuses.
+ */
+uint32_t dwarnizza_index_page(const uint8_t *index, size_t index_len,
+                              uint64_t page, uint64_t answer[8]);
+
+/*
  * The list of an index.
  * Answered: the list is written at the start of output, and the bytes past it
  * stay; answer[0] is how many were written.

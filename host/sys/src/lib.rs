@@ -49,6 +49,18 @@ unsafe extern "C" {
         answer: &mut [u64; 8],
     ) -> u32;
 
+    pub fn dwarnizza_index_footer(index: *const u8, index_len: usize, answer: &mut [u64; 8])
+    -> u32;
+
+    pub fn dwarnizza_index_loose(index: *const u8, index_len: usize, answer: &mut [u64; 8]) -> u32;
+
+    pub fn dwarnizza_index_page(
+        index: *const u8,
+        index_len: usize,
+        page: u64,
+        answer: &mut [u64; 8],
+    ) -> u32;
+
     pub fn dwarnizza_index_list(
         index: *const u8,
         index_len: usize,
