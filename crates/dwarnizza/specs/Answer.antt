@@ -1,4 +1,5 @@
 -- How an answer crosses to C, as a result and eight words: rules S1 to S3 and S5.
+use mathlib.Core.Bool.{Bool, cond}
 use mathlib.Core.List.{List, [], _∷_, _++_}
 use Prim.Native.Nat.{ℕ}
 use lib.ListN.{take, replicate}
@@ -20,3 +21,7 @@ answerWords (refusal number place) = number ∷ place ∷ replicate 6 0
 -- A check that has no values to give.
 abbrev pub verdictOutcome : Check → Outcome
 verdictOutcome check = after check (answered [])
+
+-- A test that has no values to give: answered where it holds, else absent.
+abbrev pub testOutcome : Bool → Outcome
+testOutcome test = cond test (answered []) (absent [])

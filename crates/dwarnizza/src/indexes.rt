@@ -3,6 +3,9 @@ use crate::answer::entry_words;
 use crate::answer::layout_words;
 use crate::answer::refused;
 use entries::Listed;
+use index_layout::FOOTER_SIZE;
+use index_layout::HASH_LENGTH;
+use index_layout::PAGE_SIZE;
 use index_open::Checked;
 use list_entry::Put;
 use listing::ListingText;
@@ -13,9 +16,10 @@ use writer::Written;
 ghost use mathlib.Core.Path.{_≡_};
 ghost use lib.ListN.{length};
 ghost use Rattle.refusal.specs.Output.{filled};
-ghost use Rattle.index_open.specs.Open.{openOutcome};
+ghost use Rattle.index_open.specs.Open.{openOutcome, isLoose};
 ghost use Rattle.index.specs.Check.{checkOutcome};
 ghost use Rattle.index_entry.specs.Entry.{entryOutcome};
+ghost use Rattle.index_page.specs.Page.{pageOutcome};
 ghost use Rattle.index_layout.specs.Entries.{listOf};
 ghost use Rattle.entries.specs.List.{listCheck, listOutcome};
 ghost use Rattle.lookup.specs.Lookup.{lookupOf, boundOf};
@@ -23,8 +27,8 @@ ghost use Rattle.index_file.specs.File.{fileOf};
 ghost use Rattle.writer.specs.Write.{layoutFor, writeCheck, writeOutcome, lengthOutcome};
 ghost use Rattle.list_entry.specs.Put.{locationOf, entryBytes, putCheck, putOutcome};
 ghost use Rattle.listing.specs.Listing.{textOf, listingCheck, listingOutcome, fitted};
-ghost use Rattle.dwarnizza.specs.Answer.{result, answerWords};
-ghost use Rattle.dwarnizza.specs.Indexes.{settingsFrom};
+ghost use Rattle.dwarnizza.specs.Answer.{result, answerWords, testOutcome};
+ghost use Rattle.dwarnizza.specs.Indexes.{settingsFrom, footerOutcome};
 
 // The full check: version, offset width, key length, entries and pages.
 #[no_mangle]
@@ -79,6 +83,70 @@ pub extern "C" fn dwarnizza_index_entry(index: &[u8], number: u64, answer: &mut 
             let p = page.0 as u64;
             let i = slot.0 as u64;
             *answer = [at, key_length, size, archive, offset, p, i, 0];
+            0
+        }
+    }
+}
+
+// What the footer says, by 1 to 4 alone: version, offset width, key length, entries, pages, the length of the whole file and that
+// of the footer.
+#[no_mangle]
+pub extern "C" fn dwarnizza_index_footer(index: &[u8], answer: &mut [u64; 8]) -> u32
+    ensures { λ r. ⌜ r ≡ result (footerOutcome (now (index .entry))) ⌝ }
+    ensures { λ _. ⌜ now (answer .exit) ≡ answerWords (footerOutcome (now (index .entry))) ⌝ }
+{
+    match index_open::read_footer(index) {
+        Checked::Refused(r) => refused(r, answer),
+        Checked::Passed(l) => {
+            *answer = layout_words(l);
+            answer[5] = l.length() as u64;
+            answer[6] = FOOTER_SIZE as u64;
+            0
+        }
+    }
+}
+
+// Whether the footer is that of an index of loose files or of patches.
+#[no_mangle]
+pub extern "C" fn dwarnizza_index_loose(index: &[u8], answer: &mut [u64; 8]) -> u32
+    ensures { λ r. ⌜ r ≡ result (testOutcome (isLoose (now (index .entry)))) ⌝ }
+    ensures { λ _. ⌜ now (answer .exit) ≡ answerWords (testOutcome (isLoose (now (index .entry)))) ⌝ }
+{
+    *answer = [0u64; 8];
+    if index_open::is_loose(index) { 0 } else { 1 }
+}
+
+// A page: place and length of the page, of its last key and of its hash, its first entry, and how many it has.
+#[no_mangle]
+pub extern "C" fn dwarnizza_index_page(index: &[u8], page: u64, answer: &mut [u64; 8]) -> u32
+    ensures { λ r. ⌜ r ≡ result (pageOutcome (now (index .entry)) page) ⌝ }
+    ensures { λ _. ⌜ now (answer .exit) ≡ answerWords (pageOutcome (now (index .entry)) page) ⌝ }
+{
+    match index_page::find(index, page) {
+        index_page::Answer::Refused(r) => refused(r, answer),
+        index_page::Answer::Absent => {
+            *answer = [0u64; 8];
+            1
+        }
+        index_page::Answer::Found(p) => {
+            let at = p.page_at as u64;
+            let last_key_at = p.last_key_at as u64;
+            let key_length = p.key_length as u64;
+            let hash_at = p.hash_at as u64;
+            let first = p.first_entry as u64;
+            let entries = p.entries as u64;
+            let size = PAGE_SIZE as u64;
+            let hash_length = HASH_LENGTH as u64;
+            *answer = [
+                at,
+                size,
+                last_key_at,
+                key_length,
+                hash_at,
+                hash_length,
+                first,
+                entries,
+            ];
             0
         }
     }

@@ -1,10 +1,10 @@
 -- Laws of the checks 1 to 5.
-use mathlib.Core.Path.{_≡_, sym, ap, ap₂, _∙_}
-use mathlib.Core.Bool.{Bool, not, cond}
+use mathlib.Core.Path.{_≡_, refl, sym, ap, ap₂, _∙_}
+use mathlib.Core.Bool.{Bool, true, false, not, cond}
 use mathlib.Core.List.{List, _++_}
 use Prim.Native.Nat.{ℕ, _+_, _-_, _^_, _≤_}
 use native.Mathlib.Omega.{arith}
-use lib.Dec.{ltb, lit≤}
+use lib.Dec.{ltb, eqb, lit≤}
 use lib.ListN.{length, take, drop, replicate}
 use Rattle.md5.specs.Message.{md5, digestOr0}
 use Rattle.parts.specs.Part.{partAt, sameBytes, overlay}
@@ -12,13 +12,13 @@ use Rattle.parts.proofs.Laws.{partAt-inside, overlay-inside}
 use Rattle.refusal.specs.declared.Refusal.{Refusal}
 use Rattle.refusal.specs.Check.{Check, silent, refused, refusedIf, first}
 use Rattle.refusal.specs.Outcome.{answered, after}
-use Rattle.refusal.specs.Number.{entry-count}
-use Rattle.refusal.proofs.Laws.{silent-test, first-right, first-assoc, answered-after, refusal-after}
+use Rattle.refusal.specs.Number.{entry-count, index-length}
+use Rattle.refusal.proofs.Laws.{silent-test, said, quiet, skip, first-right, first-assoc, answered-after, refusal-after}
 use Rattle.index_layout.specs.declared.Layout.{Layout}
 use Rattle.index_open.specs.declared.Checked.{Checked}
 use Rattle.index_open.specs.declared.Checked.the-variants.{Passed, Refused}
-use Rattle.index_layout.specs.Layout.{pageSize, footerSize, versionAt, footerHashAt, mostEntries, entryCount, countCheck}
-use Rattle.index_open.specs.Open.{fieldsCheck, hashedFooter, footerHashCheck, footerCheck, layoutValues, outcome}
+use Rattle.index_layout.specs.Layout.{pageSize, footerSize, versionAt, footerHashAt, mostEntries, entryCount, countCheck, indexLength, layoutOf}
+use Rattle.index_open.specs.Open.{fieldsCheck, hashedFooter, footerHashCheck, footerCheck, footerReading, opening, layoutValues, outcome, passes}
 use borrow.Author.Tests.{le-ltb, ltb-false}
 
 -- eight checks, each after those before it
@@ -47,6 +47,19 @@ hashed-is f p h size e o =
 pub hash-told : (a b c d : List ℕ) (r : Bool) (number place : ℕ) → r ≡ sameBytes a b → a ≡ c → b ≡ d
     → refusedIf (not (sameBytes c d)) number place ≡ refusedIf (not r) number place
 hash-told a b c d r number place e p q = ap (λ t. refusedIf (not t) number place) (sym (e ∙ ap₂ sameBytes p q))
+
+-- whether a check passes, by what it says and by its test
+pub passes-not : {k : Check} {number place : ℕ} → k ≡ refused number place → passes k ≡ false
+unfolding passes
+passes-not e = ap passes e
+
+passes-test : (r : Bool) (number place : ℕ) → passes (refusedIf (not r) number place) ≡ r
+unfolding passes refusedIf
+passes-test true number place = refl
+passes-test false number place = refl
+
+pub passes-by : {k : Check} (r : Bool) (number place : ℕ) → k ≡ refusedIf (not r) number place → passes k ≡ r
+passes-by r number place e = ap passes e ∙ passes-test r number place
 
 -- what the checks of the footer say of the entry count
 pub count-within : (f : List ℕ) → footerCheck f ≡ silent → entryCount f ≤ mostEntries
@@ -77,3 +90,16 @@ passed-index k l m v e g =
 pub refused-index : (k : Check) (m : Layout) (v : Checked) {r : Refusal} → outcome v ≡ after k (answered (layoutValues m)) → v ≡ Refused r → k ≡ refused (r .number) (r .place)
 unfolding outcome
 refused-index k m v {r} e g = refusal-after k (r .number) (r .place) (layoutValues m) (sym (ap outcome g) ∙ e)
+
+-- 5, where 1 to 4 pass
+module _ (s : List ℕ) (l : Layout) (n : ℕ) (reading : footerReading s ≡ silent) (e : l ≡ layoutOf s) (told : n ≡ indexLength l) where
+  length-is : eqb (length s) n ≡ eqb (length s) (indexLength (layoutOf s))
+  length-is = ap (eqb (length s)) (told ∙ ap indexLength e)
+
+  pub length-wrong : eqb (length s) n ≡ false → opening s ≡ refused index-length 0
+  unfolding opening
+  length-wrong h = skip reading (said refl (ap not (sym length-is ∙ h)))
+
+  pub length-right : eqb (length s) n ≡ true → opening s ≡ silent
+  unfolding opening
+  length-right h = skip reading (quiet index-length 0 refl (ap not (sym length-is ∙ h)))

@@ -18,7 +18,7 @@ use Rattle.refusal.specs.Number.{index-short, footer-field, index-length}
 use Rattle.refusal.proofs.Laws.{silent-test, first-left, first-right}
 use Rattle.index_layout.specs.declared.Layout.{Layout}
 use Rattle.index_layout.specs.Layout.{pageSize, footerSize, hashLength, versionAt, reservedAt, pageKbAt, offsetWidthAt, sizeWidthAt, keyLengthAt, leastVersion, mostVersion, pageKb, leastOffsetWidth, mostOffsetWidth, sizeWidth, leastKeyLength, mostKeyLength, mostEntries, countCheck, footer, entryCount, keyLength, offsetWidth, entrySize, full, pagesFor, onPage, pageAt, indexLength, layoutFrom, layoutOf}
-use Rattle.index_open.specs.Open.{shortCheck, fieldCheck, fieldsCheck, footerHashCheck, footerCheck, lengthCheck, opening}
+use Rattle.index_open.specs.Open.{shortCheck, fieldCheck, fieldsCheckWith, fieldsCheck, footerHashCheck, footerCheck, footerReading, lengthCheck, opening}
 use Rattle.index_layout.specs.Entries.{entriesOf, entriesBy, listOf}
 use Rattle.index_layout.proofs.Laws.{on-page-fits, per-page}
 use Rattle.index_open.proofs.Laws.{count-within}
@@ -40,7 +40,7 @@ field-range f at low high e =
 -- the offset width is the fifth field, the key length the seventh
 fields-range : (f : List ℕ) → fieldsCheck f ≡ silent
     → ((leastOffsetWidth ≤ offsetWidth f) × (offsetWidth f ≤ mostOffsetWidth)) × ((leastKeyLength ≤ keyLength f) × (keyLength f ≤ mostKeyLength))
-unfolding fieldsCheck
+unfolding fieldsCheckWith
 fields-range f e =
     let a = first-right (fieldCheck f versionAt leastVersion mostVersion) _ e in
     let b = first-right (fieldCheck f reservedAt 0 0) _ a in
@@ -56,17 +56,17 @@ pub opened : (s : List ℕ) → opening s ≡ silent → Opened s
 unfolding opening footerCheck
 opened s e =
     let f : List ℕ = footer s in
-    let rest = first-right (shortCheck s) _ e in
-    let foot = first-left (first (fieldsCheck f) (first (footerHashCheck f) (countCheck (entryCount f)))) (lengthCheck s) rest in
+    let reading = first-left (footerReading s) (lengthCheck s) e in
+    let foot = first-right (shortCheck s) (first (fieldsCheck f) (first (footerHashCheck f) (countCheck (entryCount f)))) reading in
     let fields = fields-range f (first-left (fieldsCheck f) _ foot) in
     record {
-      whole = eqb-true (length s) (indexLength (layoutOf s)) (not-false _ (silent-test _ index-length 0 (first-right (first (fieldsCheck f) (first (footerHashCheck f) (countCheck (entryCount f)))) (lengthCheck s) rest)));
+      whole = eqb-true (length s) (indexLength (layoutOf s)) (not-false _ (silent-test _ index-length 0 (first-right (footerReading s) (lengthCheck s) e)));
       offset-low = fields .0 .0;
       offset-high = fields .0 .1;
       key-low = fields .1 .0;
       key-high = fields .1 .1;
       count = count-within f foot;
-      long = ltb-false (length s) footerSize (silent-test (ltb (length s) footerSize) index-short 0 (first-left (shortCheck s) _ e));
+      long = ltb-false (length s) footerSize (silent-test (ltb (length s) footerSize) index-short 0 (first-left (shortCheck s) _ reading));
     }
 
 -- P pages of e entries hold n, and all but the last are needed

@@ -1,4 +1,4 @@
-// Opening an archive index: refusals 1 to 5, and the layout that the footer tells.
+// Opening an archive index: refusals 1 to 5, and the layout that the footer tells; and whether a footer is that of a loose index.
 use field::little;
 use field::within;
 use index_layout::ENTRY_COUNT_AT;
@@ -43,7 +43,10 @@ ghost use Rattle.refusal.specs.Number.{footer-hash};
 ghost use Rattle.index_layout.specs.Layout as layout;
 ghost use Rattle.index_open.specs.Open as spec;
 
-// What opening or checking an index answers.
+// The offset width of an index of loose files or of patches.
+pub const LOOSE_OFFSET_WIDTH: u8 = 0;
+
+// What reading the footer of an index, opening or checking it answers.
 pub enum Checked {
     Passed(Layout),
     Refused(Refusal),
@@ -72,23 +75,17 @@ fn check_field(before: Verdict, footer: &[u8], at: usize, low: u8, high: u8) -> 
     Verdict::Passed
 }
 
-// Each field against its list, in the footer's order: version, reserved, page KB, offset width, size width, key length and
-// hash length.
-fn check_fields(footer: &[u8]) -> Verdict
-    ensures { λ r. ⌜ checkOf r ≡ spec.fieldsCheck (now (footer .entry)) ⌝ }
+// Each field against its list, in the footer's order: version, reserved, page KB, offset width from low to high, size width,
+// key length and hash length.
+fn check_fields(footer: &[u8], low: u8, high: u8) -> Verdict
+    ensures { λ r. ⌜ checkOf r ≡ spec.fieldsCheckWith (now (footer .entry)) low high ⌝ }
 {
     let v = Verdict::Passed;
     let v = check_field(v, footer, VERSION_AT, LEAST_VERSION, MOST_VERSION);
     let v = check_field(v, footer, RESERVED_AT, 0, 0);
     let v = check_field(v, footer, RESERVED_AT + 1, 0, 0);
     let v = check_field(v, footer, PAGE_KB_AT, PAGE_KB, PAGE_KB);
-    let v = check_field(
-        v,
-        footer,
-        OFFSET_WIDTH_AT,
-        LEAST_OFFSET_WIDTH,
-        MOST_OFFSET_WIDTH,
-    );
+    let v = check_field(v, footer, OFFSET_WIDTH_AT, low, high);
     let v = check_field(v, footer, SIZE_WIDTH_AT, SIZE_WIDTH, SIZE_WIDTH);
     let v = check_field(v, footer, KEY_LENGTH_AT, LEAST_KEY_LENGTH, MOST_KEY_LENGTH);
     check_field(v, footer, HASH_LENGTH_AT, HASH_LENGTH, HASH_LENGTH)
@@ -134,7 +131,7 @@ fn check_footer(footer: &[u8]) -> Verdict
     requires { ⌜ length (now footer) ≡ layout.footerSize ⌝ }
     ensures { λ r. ⌜ checkOf r ≡ spec.footerCheck (now (footer .entry)) ⌝ }
 {
-    let fields = check_fields(footer);
+    let fields = check_fields(footer, LEAST_OFFSET_WIDTH, MOST_OFFSET_WIDTH);
     if let Verdict::Refused(_) = fields {
         return fields;
     }
@@ -147,9 +144,9 @@ fn check_footer(footer: &[u8]) -> Verdict
     Verdict::Passed
 }
 
-// Refusals 1 to 5, and what the footer says.
-pub fn open(index: &[u8]) -> Checked
-    ensures { λ r. ⌜ spec.outcome r ≡ spec.openOutcome (now (index .entry)) ⌝ }
+// Refusals 1 to 4, and what the footer says: the last 28 bytes of a file are enough.
+pub fn read_footer(index: &[u8]) -> Checked
+    ensures { λ r. ⌜ spec.outcome r ≡ spec.footerOutcome (now (index .entry)) ⌝ }
 {
     if index.len() < FOOTER_SIZE {
         return Checked::Refused(Refusal {
@@ -161,12 +158,37 @@ pub fn open(index: &[u8]) -> Checked
     if let Verdict::Refused(r) = check_footer(footer) {
         return Checked::Refused(r);
     }
-    let layout = read_layout(footer);
-    if index.len() != layout.length() {
-        return Checked::Refused(Refusal {
-            number: INDEX_LENGTH,
-            place: 0,
-        });
+    Checked::Passed(read_layout(footer))
+}
+
+// Refusals 1 to 5, and what the footer says.
+pub fn open(index: &[u8]) -> Checked
+    ensures { λ r. ⌜ spec.outcome r ≡ spec.openOutcome (now (index .entry)) ⌝ }
+{
+    match read_footer(index) {
+        Checked::Refused(r) => Checked::Refused(r),
+        Checked::Passed(layout) => {
+            if index.len() != layout.length() {
+                return Checked::Refused(Refusal {
+                    number: INDEX_LENGTH,
+                    place: 0,
+                });
+            }
+            Checked::Passed(layout)
+        }
     }
-    Checked::Passed(layout)
+}
+
+// Whether the last 28 bytes are the footer of an index of loose files or of patches.
+pub fn is_loose(index: &[u8]) -> bool
+    ensures { λ r. ⌜ r ≡ spec.isLoose (now (index .entry)) ⌝ }
+{
+    if index.len() < FOOTER_SIZE {
+        return false;
+    }
+    let footer = footer(index);
+    match check_fields(footer, LOOSE_OFFSET_WIDTH, LOOSE_OFFSET_WIDTH) {
+        Verdict::Refused(_) => false,
+        Verdict::Passed => footer_hash_right(footer),
+    }
 }

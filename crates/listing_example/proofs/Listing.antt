@@ -7,7 +7,7 @@ use Rattle.md5_block.specs.Block.{addends, shifts, mixed, wordNumber, turned, s
 use Rattle.md5.specs.Message.{littleBytes, padding, initial, digestOf, md5}
 use Rattle.key.specs.Order.{compared, decided}
 use Rattle.index_layout.specs.Layout.{layoutFrom, pagesFor, entrySize, full, onPage, entryAt, lastKeyAt, pageHashAt, indexLength}
-use Rattle.index_open.specs.Open.{fieldCheck, fieldsCheck, footerHashCheck, footerCheck, opening}
+use Rattle.index_open.specs.Open.{fieldCheck, fieldsCheckWith, footerHashCheck, footerCheck, opening}
 use Rattle.index.specs.Check.{pageHashCheck, paddingCheck, keyBefore, notAbove, orderCheck, lastKeyCheck, pageCheck, pagesCheck, fullCheck}
 use Rattle.index_layout.specs.Entries.{sizeAt, locationAt}
 use Rattle.text.specs.Text.{ascii, decimalDigits, hex}
@@ -19,7 +19,7 @@ use Rattle.printed.specs.Printed.{hasPlace, placeText, refusalLine, printedAfte
 
 -- both indexes pass the full check, their hashes with it
 passes : (listingCheck one ≡ silent) × (listingCheck none ≡ silent)
-unfolding listingCheck fullCheck opening footerCheck fieldsCheck fieldCheck footerHashCheck pagesCheck pageCheck pageHashCheck paddingCheck keyBefore notAbove orderCheck lastKeyCheck refusedIf first firstFrom sameBytes allZero compared decided layoutFrom pagesFor entrySize full onPage entryAt lastKeyAt pageHashAt indexLength littleAt bigAt within addends shifts mixed wordNumber turned step steps word wordsOf sum block blocks littleBytes padding initial digestOf md5
+unfolding listingCheck fullCheck opening footerCheck fieldsCheckWith fieldCheck footerHashCheck pagesCheck pageCheck pageHashCheck paddingCheck keyBefore notAbove orderCheck lastKeyCheck refusedIf first firstFrom sameBytes allZero compared decided layoutFrom pagesFor entrySize full onPage entryAt lastKeyAt pageHashAt indexLength littleAt bigAt within addends shifts mixed wordNumber turned step steps word wordsOf sum block blocks littleBytes padding initial digestOf md5
 passes = (refl, refl)
 
 -- their texts

@@ -24,7 +24,7 @@ use Rattle.index_layout.specs.declared.Layout.{Layout}
 use Rattle.index_layout.specs.Layout.{pageSize, footerSize, hashLength, versionAt, reservedAt, pageKbAt, offsetWidthAt, sizeWidthAt, keyLengthAt, hashLengthAt, entryCountAt, footerHashAt, leastVersion, mostVersion, pageKb, leastOffsetWidth, mostOffsetWidth, sizeWidth, leastKeyLength, mostKeyLength, mostEntries, footer, version, footerHash, entrySize, full, onPage, entryNumber, pageAt, entryAt, lastKeyAt, pageHashAt, indexLength, layoutWith, layoutFrom, layoutOf, pageOf}
 use Rattle.index_layout.specs.Entries.{entriesOf, entriesBy, listOf}
 use Rattle.index_layout.proofs.Laws.{on-page-fits}
-use Rattle.index_open.specs.Open.{fieldCheck, fieldsCheck, hashedFooter, footerHashCheck, footerCheck, shortCheck, lengthCheck, opening}
+use Rattle.index_open.specs.Open.{fieldCheck, fieldsCheckWith, fieldsCheck, hashedFooter, footerHashCheck, footerCheck, footerReading, shortCheck, lengthCheck, opening}
 use Rattle.index_open.proofs.Opened.{Opened, opened, field-range, full-positive, entries-held, list-length, entries-length, page-inside}
 use Rattle.index.specs.Check.{pageHashCheck, paddingCheck, orderCheck, lastKeyCheck, pageCheck, pagesCheck, fullCheck}
 use Rattle.index_footer.specs.Footer.{footerAt, contentsOf, fields, hashedFields, footerWith}
@@ -194,12 +194,12 @@ module _ (f : List ℕ) (size : length f ≡ footerSize) (bytes : (i : ℕ) → 
       omega (arith, r .0, r .1)
 
   version-low : version f ≤ mostVersion
-  unfolding fieldsCheck
+  unfolding fieldsCheckWith
   version-low = field-range f versionAt leastVersion mostVersion (first-left (fieldCheck f versionAt leastVersion mostVersion) _ e) .1
 
   -- the fields are those of the layout
   fields-again : partAt f versionAt (footerHashAt - versionAt) ≡ fields (layoutFrom f)
-  unfolding fieldsCheck fields layoutFrom bytesFrom
+  unfolding fieldsCheckWith fields layoutFrom bytesFrom
   fields-again =
       let a = first-right (fieldCheck f versionAt leastVersion mostVersion) _ e in
       let b = first-right (fieldCheck f reservedAt 0 0) _ a in
@@ -237,7 +237,7 @@ module _ (s : List ℕ) (bytes : (i : ℕ) → byteAt s i < 256) (e : fullCheck 
 
   foot-silent : footerCheck (footer s) ≡ silent
   unfolding opening
-  foot-silent = first-left (footerCheck (footer s)) (lengthCheck s) (first-right (shortCheck s) _ opening-silent)
+  foot-silent = first-right (shortCheck s) (footerCheck (footer s)) (first-left (footerReading s) (lengthCheck s) opening-silent)
 
   foot-length : length (footer s) ≡ footerSize
   foot-length = length-drop (length s - footerSize) s ∙ omega (arith, known .long)

@@ -24,7 +24,7 @@ use Rattle.index_layout.specs.declared.Layout.{Layout}
 use Rattle.index_layout.specs.Layout.{pageSize, footerSize, hashLength, versionAt, reservedAt, pageKbAt, offsetWidthAt, sizeWidthAt, keyLengthAt, hashLengthAt, footerHashAt, leastVersion, mostVersion, pageKb, leastOffsetWidth, mostOffsetWidth, sizeWidth, leastKeyLength, mostKeyLength, mostEntries, footer, entryCount, footerHash, entrySize, full, onPage, entryNumber, pageAt, entryAt, lastKeyAt, pageHashAt, indexLength, layoutWith, layoutFrom, layoutOf, pageOf}
 use Rattle.index_layout.specs.Entries.{entriesOf, entriesBy, listOf}
 use Rattle.index_layout.proofs.Laws.{on-page-fits, on-page-full}
-use Rattle.index_open.specs.Open.{fieldCheck, fieldsCheck, footerHashCheck, footerCheck, opening}
+use Rattle.index_open.specs.Open.{fieldCheck, fieldsCheckWith, fieldsCheck, footerHashCheck, footerCheck, opening}
 use Rattle.index_open.proofs.Opened.{pages-hold}
 use Rattle.index.specs.Check.{pageHashCheck, paddingCheck, notAbove, orderCheck, lastKeyCheck, pageCheck, pagesCheck, fullCheck}
 use Rattle.index_footer.specs.Footer.{fields, hashedFields, footerWith}
@@ -65,7 +65,7 @@ field-quiet f at low high x e h k =
 module _ (l : Layout) (contents : List ℕ) (v : l .version ≤ mostVersion) (o : (leastOffsetWidth ≤ l .«offset_width») × (l .«offset_width» ≤ mostOffsetWidth))
     (k : (leastKeyLength ≤ l .«key_length») × (l .«key_length» ≤ mostKeyLength)) where
   fields-quiet : fieldsCheck (footerWith l contents) ≡ silent
-  unfolding fieldsCheck footerWith hashedFields fields md5 digestOf littleBytes
+  unfolding fieldsCheckWith footerWith hashedFields fields md5 digestOf littleBytes
   fields-quiet =
       skip (field-quiet _ versionAt leastVersion mostVersion (l .version) refl (omega arith) v)
       (skip (field-quiet _ reservedAt 0 0 0 refl (omega arith) (omega arith))
@@ -257,9 +257,9 @@ module _ (s : Settings) (list : List ℕ) (room : ℕ) (quiet-write : writeCheck
   opening-quiet : opening (fileOf list l) ≡ silent
   unfolding opening
   opening-quiet =
-      skip (quiet index-short 0 refl (le-ltb (length (fileOf list l)) footerSize (omega (arith, file-length list l stored, index-long l))))
-      (skip (ap footerCheck (footer-there list l stored) ∙ footer-quiet l _ (ranges .0) (ranges .1 .0) (ranges .1 .1) few)
-      (quiet index-length 0 refl (ap not (eq-eqb _ _ (file-length list l stored ∙ ap indexLength (sym layout-back))))))
+      skip (skip (quiet index-short 0 refl (le-ltb (length (fileOf list l)) footerSize (omega (arith, file-length list l stored, index-long l))))
+      (ap footerCheck (footer-there list l stored) ∙ footer-quiet l _ (ranges .0) (ranges .1 .0) (ranges .1 .1) few))
+      (quiet index-length 0 refl (ap not (eq-eqb _ _ (file-length list l stored ∙ ap indexLength (sym layout-back)))))
 
   rises : (g : ℕ) → 1 ≤ g → g < l .entries → isBelow (compared (keyOf list l (g - 1)) (keyOf list l g)) ≡ true
   unfolding layoutFor entrySize listEntrySize keyIn

@@ -1,6 +1,6 @@
 -- `index_open::check_fields`: the first field outside its list speaks.
 use Rattle.refusal.specs.Check.{checkOf}
-use Rattle.index_open.specs.Open.{fieldsCheck}
+use Rattle.index_open.specs.Open.{fieldsCheckWith}
 use Rattle.index_open.proofs.Laws.{chain}
 use borrow.Author.Needs.{needs}
 use Rattle.index_open.proofs.check_fields.Statement.{statement}
@@ -34,7 +34,7 @@ check-field-requires-8 : tie.Need-check-field-requires-8
 check-field-requires-8 c κs = search needs
 
 returns : tie.Need-returns
-unfolding fieldsCheck checkOf
+unfolding fieldsCheckWith checkOf
 returns c =
     chain _ _ _ _ _ _ _ _ (c .before .before .before .before .before .before .before .check-field .ensures) (c .before .before .before .before .before .before .check-field2 .ensures) (c .before .before .before .before .before .check-field3 .ensures)
     (c .before .before .before .before .check-field4 .ensures) (c .before .before .before .check-field5 .ensures) (c .before .before .check-field6 .ensures) (c .before .check-field7 .ensures) (c .check-field8 .ensures)
