@@ -5,19 +5,21 @@ mod entry;
 mod footer;
 mod listing;
 mod lookup;
+mod page;
 mod write;
 
 pub use check::{check, list};
 pub use entry::{Entry, entry, put_entry};
+pub use footer::{Footer, footer, is_loose};
 pub use listing::{MOST_LISTED, listing, printed};
 pub use lookup::{Found, Lookup, bound, lookup};
+pub use page::{PageParts, page};
 pub use write::{write, written_length};
 
 use std::array;
 
 use crate::md5;
 use crate::refusal::{self, Refusal};
-use footer::Footer;
 
 /// How many bytes a page has.
 pub const PAGE: usize = 4096;
@@ -92,19 +94,15 @@ pub struct Index<'a> {
 impl<'a> Index<'a> {
     /// Opens a file; refuses with 1 to 5.
     pub fn open(file: &'a [u8]) -> Result<Self, Refusal> {
-        let (contents, footer) = file
-            .split_last_chunk::<FOOTER>()
-            .ok_or(refusal::INDEX_TOO_SHORT)?;
-        let Footer { settings, entries } = Footer::read(footer)?;
-        if entries > MOST_ENTRIES {
-            return Err(refusal::TOO_MANY_ENTRIES);
-        }
-        if file.len() != settings.file_len(entries) {
+        let footer = footer(file)?;
+        if file.len() != footer.file_len() {
             return Err(refusal::FILE_LENGTH);
         }
-        let pages = settings.pages(entries);
-        let (page_bytes, rest) = contents.split_at(pages * PAGE);
-        let (last_keys, page_hashes) = rest.split_at(pages * settings.key_len());
+        let Footer { settings, entries } = footer;
+        let pages = footer.pages();
+        let (page_bytes, rest) = file.split_at(pages * PAGE);
+        let (last_keys, rest) = rest.split_at(pages * settings.key_len());
+        let (page_hashes, _) = rest.split_at(pages * HASH);
         Ok(Self {
             settings,
             entries,

@@ -1,10 +1,12 @@
-//! Archive indexes by the second program: document 01's marked examples, whole files with hashes
-//! from elsewhere, the orders of refusal, the lookup beside the plain reading, and the listing.
+//! Archive indexes by the second program: document 01's marked examples, whole files and footers
+//! with hashes from elsewhere, the orders of refusal, the parts of pages, the lookup beside the
+//! plain reading, and the listing.
 
 use second::index::{
-    FOOTER, Index, Lookup, MOST_ENTRIES, MOST_LISTED, PAGE, Settings, bound, check, list, listing,
-    lookup, printed, write,
+    FOOTER, Index, Lookup, MOST_ENTRIES, MOST_LISTED, PAGE, Settings, bound, check, footer,
+    is_loose, list, listing, lookup, page, printed, write,
 };
+use second::md5;
 use second::refusal::{self, Refusal};
 
 const K1_W4: Settings = settings(1, 4);
@@ -105,6 +107,143 @@ fn whole_files() {
         b"\xe0\xe3\x87\xf2\x31\x42\x6f\xd1",
     ];
     assert_eq!(file(version_0, &[]), expected.concat());
+}
+
+/// A footer of the fields from version to hash length, n and a hash, after no contents hash.
+fn footer_of(fields: [u8; 8], entries: u32, hash: [u8; 8]) -> Vec<u8> {
+    [[0; 8].as_slice(), &fields, &entries.to_le_bytes(), &hash].concat()
+}
+
+/// The same with the right hash.
+fn sealed_footer(fields: [u8; 8], entries: u32) -> Vec<u8> {
+    let hashed = [fields.as_slice(), &entries.to_le_bytes(), &[0; 8]].concat();
+    let digest = md5::digest(&hashed).unwrap();
+    footer_of(fields, entries, *digest.first_chunk().unwrap())
+}
+
+const K16_W4_FIELDS: [u8; 8] = [1, 0, 0, 4, 4, 4, 16, 8];
+const LOOSE_FIELDS: [u8; 8] = [1, 0, 0, 4, 0, 4, 16, 8];
+
+/// The hashes were made by another program.
+#[test]
+fn a_footer_alone() {
+    let hash = *b"\x0f\xfa\x6f\xee\x7f\x70\x36\xeb";
+    let most = footer_of(K16_W4_FIELDS, 8_388_608, hash);
+    let said = footer(&most).unwrap();
+    assert_eq!((said.settings, said.entries), (K16_W4, 8_388_608));
+    // 8,388,608 / 170 is 49,344.8.
+    assert_eq!(said.pages(), 49_345);
+    assert_eq!(said.file_len(), 49_345 * (4096 + 16 + 8) + 28);
+    assert_eq!(check(&most).err(), Some(refusal::FILE_LENGTH));
+
+    let hash = *b"\xcd\x10\xca\xf6\x9a\x31\x38\x45";
+    let more = footer_of(K16_W4_FIELDS, 8_388_609, hash);
+    assert_eq!(footer(&more), Err(refusal::TOO_MANY_ENTRIES));
+}
+
+#[test]
+fn a_footer_is_read_whatever_comes_before_it() {
+    let whole = file(K16_W4, &counted_list(K16_W4, 171, 0, 1));
+    let said = footer(&whole).unwrap();
+    assert_eq!((said.settings, said.entries), (K16_W4, 171));
+    assert_eq!((said.pages(), said.file_len()), (2, 8268));
+    assert_eq!(footer(&whole[1..]), Ok(said));
+    assert_eq!(footer(&whole[whole.len() - FOOTER..]), Ok(said));
+    assert_eq!(footer(&[&[7], whole.as_slice()].concat()), Ok(said));
+
+    let short = &whole[whole.len() - FOOTER + 1..];
+    assert_eq!(footer(short), Err(refusal::INDEX_TOO_SHORT));
+    assert_eq!(footer(&whole[..PAGE]), Err(refusal::FOOTER_FIELD));
+    let mut bad = whole.clone();
+    *bad.last_mut().unwrap() ^= 1;
+    assert_eq!(footer(&bad), Err(refusal::FOOTER_HASH));
+}
+
+/// The hashes were made by another program.
+#[test]
+fn loose_indexes() {
+    let hash = *b"\xf6\xa1\xa4\xea\x08\x1a\xfb\xba";
+    let loose = footer_of(LOOSE_FIELDS, 3, hash);
+    assert!(is_loose(&loose));
+    assert!(is_loose(&[&[7; 100], loose.as_slice()].concat()));
+    assert!(!is_loose(&loose[1..]));
+    assert_eq!(check(&loose).err(), Some(refusal::FOOTER_FIELD));
+
+    let hash = *b"\xa7\xcc\xdd\xbb\xc2\x15\xf7\x62";
+    assert!(is_loose(&footer_of(
+        [0, 0, 0, 4, 0, 4, 9, 8],
+        u32::MAX,
+        hash
+    )));
+
+    for place in 8..FOOTER {
+        let mut bad = loose.clone();
+        bad[place] ^= 1;
+        assert!(!is_loose(&bad), "byte {place}");
+    }
+}
+
+/// Each field beside its list, with a hash that fits.
+#[test]
+fn fields_of_footers() {
+    assert!(is_loose(&sealed_footer(LOOSE_FIELDS, 3)));
+    assert!(footer(&sealed_footer(K16_W4_FIELDS, 3)).is_ok());
+    let wrong: [(usize, &[u8]); 8] = [
+        (0, &[2, 255]),
+        (1, &[1]),
+        (2, &[1]),
+        (3, &[3, 5]),
+        (4, &[1, 2, 3, 7]),
+        (5, &[3, 5]),
+        (6, &[0, 17]),
+        (7, &[7, 9]),
+    ];
+    for (field, values) in wrong {
+        for &value in values {
+            let with = |mut fields: [u8; 8]| {
+                fields[field] = value;
+                sealed_footer(fields, 3)
+            };
+            assert!(!is_loose(&with(LOOSE_FIELDS)), "{field}: {value}");
+            let refused = footer(&with(K16_W4_FIELDS));
+            assert_eq!(refused, Err(refusal::FOOTER_FIELD), "{field}: {value}");
+        }
+    }
+    assert!(!is_loose(&sealed_footer(K16_W4_FIELDS, 3)));
+    let refused = footer(&sealed_footer(LOOSE_FIELDS, 3));
+    assert_eq!(refused, Err(refusal::FOOTER_FIELD));
+}
+
+/// What stands at the places told of a page: its part of the list, the last key of that, and the
+/// hash of the page.
+#[test]
+fn parts_of_pages() {
+    for settings in [settings(2, 4), settings(9, 5), settings(16, 6)] {
+        let full = settings.entries_per_page();
+        let written = counted_list(settings, 2 * full + 5, 0, 3);
+        let file = file(settings, &written);
+        let mut number = 0;
+        for (at, count) in [(0, full), (1, full), (2, 5)] {
+            let parts = page(&file, at).unwrap().unwrap();
+            assert_eq!(parts.entries, number..number + count);
+            let bytes = &file[parts.page];
+            assert_eq!(bytes.len(), PAGE);
+            let digest = md5::digest(bytes).unwrap();
+            assert_eq!(file[parts.hash], digest[..8]);
+
+            let list = &written[number * settings.entry_len()..][..count * settings.entry_len()];
+            assert_eq!(bytes[..list.len()], *list);
+            let last = &list[list.len() - settings.entry_len()..][..settings.key_len()];
+            assert_eq!(file[parts.last_key], *last);
+            number += count;
+        }
+        for past in [3, 1 << 32, u64::MAX] {
+            assert_eq!(page(&file, past), Ok(None));
+        }
+        assert_eq!(page(&file[1..], 0), Err(refusal::FILE_LENGTH));
+    }
+    assert_eq!(page(&file(K1_W4, &[]), 0), Ok(None));
+    assert_eq!(page(&[], 0), Err(refusal::INDEX_TOO_SHORT));
 }
 
 #[test]

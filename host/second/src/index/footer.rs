@@ -1,6 +1,8 @@
 //! The last 28 bytes of an index.
 
-use super::{FOOTER, HASH, SIZE_WIDTH, Settings, first_8};
+use std::ops::RangeInclusive;
+
+use super::{FOOTER, HASH, MOST_ENTRIES, SIZE_WIDTH, Settings, first_8};
 use crate::refusal::{self, Refusal};
 
 const RESERVED: u8 = 0;
@@ -8,16 +10,50 @@ const PAGE_KB: u8 = 4;
 const SIZE_WIDTH_FIELD: u8 = SIZE_WIDTH as u8;
 const HASH_LENGTH: u8 = HASH as u8;
 
+/// The offset widths of archive indexes.
+const ARCHIVE_WIDTHS: RangeInclusive<u8> = 4..=6;
+
+/// That of indexes of loose files and of patches.
+const LOOSE_WIDTHS: RangeInclusive<u8> = 0..=0;
+
 /// What a footer says. The contents hash is not judged.
+#[derive(Clone, Copy, Debug, PartialEq, Eq)]
 pub struct Footer {
+    /// Version, W and K.
     pub settings: Settings,
     /// n, of which the footer has 32 bits.
     pub entries: usize,
 }
 
+/// What the footer of a file says, whatever the file's length; refuses with 1 to 4.
+pub fn footer(file: &[u8]) -> Result<Footer, Refusal> {
+    let footer = file.last_chunk().ok_or(refusal::INDEX_TOO_SHORT)?;
+    let footer = Footer::read(footer, ARCHIVE_WIDTHS)?;
+    if footer.entries > MOST_ENTRIES {
+        return Err(refusal::TOO_MANY_ENTRIES);
+    }
+    Ok(footer)
+}
+
+/// Whether the footer of a file is that of an index of loose files or of patches. n may be any.
+pub fn is_loose(file: &[u8]) -> bool {
+    file.last_chunk()
+        .is_some_and(|footer| Footer::read(footer, LOOSE_WIDTHS).is_ok())
+}
+
 impl Footer {
-    /// Reads a footer; refuses with 2 and 3.
-    pub fn read(footer: &[u8; FOOTER]) -> Result<Self, Refusal> {
+    /// P.
+    pub fn pages(&self) -> usize {
+        self.settings.pages(self.entries)
+    }
+
+    /// How many bytes the whole file has.
+    pub fn file_len(&self) -> usize {
+        self.settings.file_len(self.entries)
+    }
+
+    /// Reads a footer with one of these offset widths; refuses with 2 and 3.
+    fn read(footer: &[u8; FOOTER], offset_widths: RangeInclusive<u8>) -> Result<Self, Refusal> {
         let (_, hashed) = footer.split_at(HASH);
         let (fields, stored) = hashed.split_at(hashed.len() - HASH);
         let &[
@@ -25,7 +61,7 @@ impl Footer {
             RESERVED,
             RESERVED,
             PAGE_KB,
-            offset_width @ 4..=6,
+            offset_width,
             SIZE_WIDTH_FIELD,
             key_length @ 1..=16,
             HASH_LENGTH,
@@ -37,6 +73,9 @@ impl Footer {
         else {
             return Err(refusal::FOOTER_FIELD);
         };
+        if !offset_widths.contains(&offset_width) {
+            return Err(refusal::FOOTER_FIELD);
+        }
         if stored != footer_hash(fields) {
             return Err(refusal::FOOTER_HASH);
         }
