@@ -56,6 +56,6 @@ outcome (Found p) = answered (values p)
 outcome Absent = absent []
 outcome (Refused r) = refusal (r .number) (r .place)
 
--- The entry in slot i of page p has the number of the page's first entry and i (rule I31).
+-- The entry in slot i of page p has the number of the page's first entry plus i (rule I31).
 abbrev pub EntriesOfPage : Layout → Type 0
 EntriesOfPage l = (p i : ℕ) → firstEntry l p + i ≡ entryNumber l p i
