@@ -1,8 +1,6 @@
 // One entry of an archive index by its number.
-use field::big;
 use index_layout::Layout;
 use index_layout::Page;
-use index_layout::SIZE_WIDTH;
 use index_layout::Slot;
 use index_layout::archive;
 use index_layout::offset;
@@ -60,16 +58,13 @@ fn found(index: &[u8], l: Layout, page: Page, slot: Slot) -> Entry
     requires { ⌜ l .«offset_width» ≤ 8 ⌝ }
     ensures { λ r. ⌜ spec.values r ≡ spec.valuesAt (now (index .entry)) l (page .0) (slot .0) ⌝ }
 {
-    let key_at = l.entry_at(page, slot);
-    let at = key_at + l.key_length as usize;
-    let size = big(index, at, SIZE_WIDTH as usize) as u32;
-    let width = l.offset_width;
-    let location = big(index, at + SIZE_WIDTH as usize, width as usize);
     let key_length = l.key_length;
+    let width = l.offset_width;
+    let location = l.location_at(index, page, slot);
     Entry {
-        key_at,
+        key_at: l.entry_at(page, slot),
         key_length,
-        size,
+        size: l.size_at(index, page, slot),
         archive: archive_in(width, location),
         offset: offset_in(width, location),
         page,

@@ -11,7 +11,7 @@ use Rattle.parts.proofs.Laws.{part-of-part}
 use Rattle.index_layout.specs.declared.Layout.{Layout}
 use Rattle.field.specs.Number.{bigAt}
 use Rattle.field.proofs.Laws.{bigAt-below}
-use Rattle.index_layout.specs.Entries.{sizeAt, locationAt, archiveOf, offsetOf}
+use Rattle.index_layout.specs.Entries.{locationAt, locationRead, archiveOf, offsetOf}
 use Rattle.index_layout.specs.Layout.{pageSize, entrySize, full, onPage, entryAt, keyAt}
 
 -- a product is at most that of the two bounds
@@ -92,13 +92,9 @@ entry-fits l p i at e hp hi hk ho =
 pub size-fits : (s : List ℕ) (at r : ℕ) → ((i : ℕ) → byteAt s i < 256) → r ≡ bigAt s at 4 → r < 2 ^ 32
 size-fits s at r bytes e = rw e (bigAt-below s bytes at 4)
 
-module _ (s : List ℕ) (l : Layout) (p i at : ℕ) (e : at ≡ entryAt l p i) where
-  pub size-is : (r : ℕ) → r ≡ bigAt s (at + l .«key_length») 4 → r ≡ sizeAt s l p i
-  unfolding sizeAt
-  size-is r h = rw e at h
-
-  pub location-is : (r : ℕ) → l .«offset_width» ≤ 8 → r ≡ bigAt s (at + l .«key_length» + 4) (min (l .«offset_width») 8) → r ≡ locationAt s l p i
-  unfolding locationAt
-  location-is r w h =
-      let narrow : min (l .«offset_width») 8 ≡ l .«offset_width» = omega arith in
-      rw (e, narrow) at h
+-- with W up to 8 the location is read whole
+pub location-is : (s : List ℕ) (l : Layout) (p i r : ℕ) → l .«offset_width» ≤ 8 → r ≡ locationRead s l p i → r ≡ locationAt s l p i
+unfolding locationRead locationAt
+location-is s l p i r w h =
+    let narrow : min (l .«offset_width») 8 ≡ l .«offset_width» = omega arith in
+    rw narrow at h

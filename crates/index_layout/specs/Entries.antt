@@ -1,6 +1,6 @@
 -- The entries of an index: rules I5, I13 and I15.
 use mathlib.Core.List.{List}
-use Prim.Native.Nat.{ℕ, _+_, _*_, _/_, _%_, _^_}
+use Prim.Native.Nat.{ℕ, _+_, _*_, _/_, _%_, _^_, min}
 use Rattle.parts.specs.Part.{partAt, partsFrom}
 use Rattle.index_layout.specs.declared.Layout.{Layout}
 use Rattle.field.specs.Number.{bigAt}
@@ -12,6 +12,10 @@ sizeAt s l p i = bigAt s (entryAt l p i + l .«key_length») sizeWidth
 
 unfoldable pub locationAt : List ℕ → Layout → ℕ → ℕ → ℕ
 locationAt s l p i = bigAt s (entryAt l p i + l .«key_length» + sizeWidth) (l .«offset_width»)
+
+-- A location as the code reads it, eight bytes at most (rule G17). An index that opens has W up to 6, so it is the same.
+unfoldable pub locationRead : List ℕ → Layout → ℕ → ℕ → ℕ
+locationRead s l p i = bigAt s (entryAt l p i + l .«key_length» + sizeWidth) (min (l .«offset_width») 8)
 
 -- With W = 6 the location is archive number (2 bytes), then offset (4) (rule I13).
 abbrev pub archiveOf : ℕ → ℕ

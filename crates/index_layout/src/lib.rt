@@ -1,5 +1,6 @@
-// Where things stand in an archive index. Every value of a layout is answered for: the types keep each sum and product
+// Where things stand in an archive index, and the size and location of an entry. Every value of a layout is answered for: the types keep each sum and product
 // within its range. specs/Layout.antt has the same names, as that language writes them.
+use field::big;
 ghost use mathlib.Core.Path.{_≡_};
 ghost use Prim.Native.Nat.{_-_, _≤_};
 ghost use Rattle.index_layout.specs.Layout as spec;
@@ -164,6 +165,22 @@ impl Layout {
         ensures { λ r. ⌜ r ≡ spec.entryAt self (page .0) (slot .0) ⌝ }
     {
         page_at(page) + slot.0 as usize * self.entry_size()
+    }
+
+    // The encoded size of the entry in a slot.
+    pub fn size_at(self, index: &[u8], page: Page, slot: Slot) -> u32
+        ensures { λ r. ⌜ r ≡ entries.sizeAt (now (index .entry)) self (page .0) (slot .0) ⌝ }
+    {
+        let at = self.entry_at(page, slot) + self.key_length as usize;
+        big(index, at, SIZE_WIDTH as usize) as u32
+    }
+
+    // The location of the entry in a slot. An offset width above 8 reads as 8.
+    pub fn location_at(self, index: &[u8], page: Page, slot: Slot) -> u64
+        ensures { λ r. ⌜ r ≡ entries.locationRead (now (index .entry)) self (page .0) (slot .0) ⌝ }
+    {
+        let at = self.entry_at(page, slot) + self.key_length as usize + SIZE_WIDTH as usize;
+        big(index, at, self.offset_width as usize)
     }
 
     // Where a page's stored last key stands. That of the page after the last is where the hashes begin.

@@ -1,8 +1,6 @@
 // An archive index as text.
-use field::big;
 use index_layout::Layout;
 use index_layout::Page;
-use index_layout::SIZE_WIDTH;
 use index_layout::Slot;
 use index_open::Checked;
 use lines::put_entry;
@@ -35,19 +33,11 @@ fn put_line(index: &[u8], l: Layout, page: Page, slot: Slot, output: &mut [u8], 
     ensures { λ r. ⌜ r ≡ placeAfter at (length (spec.line (now (index .entry)) l (page .0) (slot .0))) ⌝ }
     ensures { λ _. ⌜ now (output .exit) ≡ overlay (now (output .entry)) at (spec.line (now (index .entry)) l (page .0) (slot .0)) ⌝ }
 {
-    let key = l.key_length as usize;
-    let entry = l.entry_at(page, slot);
-    let size = big(index, entry + key, SIZE_WIDTH as usize);
-    let location = big(
-        index,
-        entry + key + SIZE_WIDTH as usize,
-        l.offset_width as usize,
-    );
     put_entry(
-        part(index, entry, key),
-        size,
+        part(index, l.entry_at(page, slot), l.key_length as usize),
+        l.size_at(index, page, slot) as u64,
         l.offset_width,
-        location,
+        l.location_at(index, page, slot),
         output,
         at,
     )

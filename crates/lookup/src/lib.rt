@@ -1,10 +1,8 @@
 // The lookup of a key in an archive index, by the halving rule, and how many stored keys it may compare.
-use field::big;
 use halving::binary_digits;
 use halving::halve;
 use index_layout::Layout;
 use index_layout::Page;
-use index_layout::SIZE_WIDTH;
 use index_layout::Slot;
 use index_open::Checked;
 use parts::equal;
@@ -87,14 +85,11 @@ fn found(index: &[u8], l: Layout, page: Page, slot: Slot, compared: u32) -> Answ
     requires { ⌜ l .«offset_width» ≤ 8 ⌝ }
     ensures { λ r. ⌜ spec.outcome r ≡ answered (page .0 ∷ slot .0 ∷ entries.sizeAt (now (index .entry)) l (page .0) (slot .0) ∷ entries.locationAt (now (index .entry)) l (page .0) (slot .0) ∷ compared ∷ []) ⌝ }
 {
-    let at = l.entry_at(page, slot) + l.key_length as usize;
-    let size = big(index, at, SIZE_WIDTH as usize) as u32;
-    let location = big(index, at + SIZE_WIDTH as usize, l.offset_width as usize);
     Answer::Found(Entry {
         page,
         slot,
-        size,
-        location,
+        size: l.size_at(index, page, slot),
+        location: l.location_at(index, page, slot),
         compared,
     })
 }

@@ -1,70 +1,26 @@
--- `lookup::found` meets its contract: size and location follow the key.
+-- `lookup::found`: the size and the location of the slot.
 use mathlib.Core.Path.{ap₂}
 use mathlib.Core.List.{[], _∷_}
-use native.Mathlib.Omega.{arith}
 use Rattle.refusal.specs.Outcome.{answered}
+use Rattle.index_layout.proofs.Laws.{location-is}
 use Rattle.lookup.specs.Lookup.{outcome}
-use Rattle.index_layout.proofs.Laws.{entry-fits, size-fits, size-is, location-is}
 use borrow.Author.Needs.{needs}
 use Rattle.lookup.proofs.found.Statement.{statement}
 use Rattle.lookup.proofs.found.Tie as tie
 
-entry-at-requires : tie.Need-entry-at-requires
-entry-at-requires c κs = search needs
+size-at-requires : tie.Need-size-at-requires
+size-at-requires c κs = search needs
 
-cast-at : tie.Need-cast-at
-cast-at c = search needs
-
-add-at : tie.Need-add-at
-add-at c =
-    let a = c .before .before .before .args in
-    omega (arith, entry-fits (a .l) (a .page .0) (a .slot .0) _ (c .before .entry-at .ensures) (search needs) (search needs) (search needs) (search needs))
-
-cast-big : tie.Need-cast-big
-cast-big c = search needs
-
-big-requires : tie.Need-big-requires
-big-requires c κs = search needs
-
-cast-size : tie.Need-cast-size
-cast-size c =
-    record { fits = size-fits _ _ _ (λ i. c .before .before .before .shared-slice-known .given i .fits) (c .big .ensures) }
-
-cast-big-2 : tie.Need-cast-big-2
-cast-big-2 c = search needs
-
-add-big : tie.Need-add-big
-add-big c =
-    let a = c .before .before .before .before .args in
-    omega (arith, entry-fits (a .l) (a .page .0) (a .slot .0) _ (c .before .before .entry-at .ensures) (search needs) (search needs) (search needs) (search needs))
-
-cast-big-3 : tie.Need-cast-big-3
-cast-big-3 c = search needs
-
-big-requires-2 : tie.Need-big-requires-2
-big-requires-2 c κs = search needs
+location-at-requires : tie.Need-location-at-requires
+location-at-requires c κs = search needs
 
 returns : tie.Need-returns
 unfolding outcome
 returns c =
-    let start = c .before .before .before .before .before .before in
+    let start = c .before .before .before in
     let a = start .args in
-    let at = c .before .before .before .before .entry-at .ensures in
     ap₂ (λ size location. answered (a .page .0 ∷ a .slot .0 ∷ size ∷ location ∷ a .compared ∷ []))
-    (size-is _ (a .l) _ _ _ at _ (c .before .before .big .ensures)) (location-is _ (a .l) _ _ _ at _ (start .pre) (c .big2 .ensures))
+    (c .before .size-at .ensures) (location-is _ (a .l) _ _ _ (start .pre) (c .location-at .ensures))
 
 pub found-spec : {M : Type 1} → statement M
-found-spec =
-    tie.close
-    (tie.spec
-    entry-at-requires
-    cast-at
-    add-at
-    cast-big
-    big-requires
-    cast-size
-    cast-big-2
-    add-big
-    cast-big-3
-    big-requires-2
-    returns)
+found-spec = tie.close (tie.spec size-at-requires location-at-requires returns)
