@@ -211,8 +211,8 @@ uint32_t dwarnizza_index_footer(const uint8_t *index, size_t index_len,
  * Whether the last 28 bytes are the footer of an index of loose files or of
  * patches, which is no archive index: the offset width is 0, the other fields
  * from version to hash length are such as an archive index has, and the footer
- * hash is right. Nothing else is judged, n neither. The full check refuses such
- * a file with 2.
+ * hash is right. n and the rest of the file are not judged. The full check
+ * refuses such a file with 2.
  * Answered: they are; no word of the answer is named.
  * Absent: they are not, or there are fewer than 28; no word of the answer is
  * named.
