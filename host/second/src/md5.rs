@@ -59,7 +59,8 @@ impl State {
         }
     }
 
-    /// Takes one more part; refused, with the state as it was, where that passes the limit.
+    /// Takes one more part; refused, with the state as it was, where that passes the limit. Once a
+    /// block became whole, zeros stand after the pending bytes.
     pub fn update(&mut self, part: &[u8]) -> Result<(), Refusal> {
         let count = self.count.saturating_add(part.len() as u64);
         if count > LIMIT {
@@ -76,11 +77,13 @@ impl State {
                 return Ok(());
             }
             self.words = after_block(self.words, &self.pending);
+            self.pending = [0; BLOCK];
             rest = after;
         }
         let (blocks, tail) = rest.as_chunks();
         for block in blocks {
             self.words = after_block(self.words, block);
+            self.pending = [0; BLOCK];
         }
         self.pending[..tail.len()].copy_from_slice(tail);
         Ok(())
