@@ -1,13 +1,11 @@
 /*
  * Dwarnizza reads and writes CASC/TACT files. This is the C interface of its
- * static library, libdwarnizza.a.
- *
- * Every function keeps one convention.
+ * static library, libdwarnizza.a, for C99 and C++11.
  *
  * Arguments. First come the inputs: bytes as a pointer and a length, and
- * numbers. Then come the outputs, and last the answer, eight 64-bit words. No
- * pointer is NULL, not even where its length is 0, and no output overlaps
- * another argument. An input may be shared with other threads for reading.
+ * numbers. Then come the outputs, and last the answer, eight 64-bit words. A
+ * length counts bytes and may be 0; then its pointer may be NULL. No other
+ * pointer is NULL, and no output overlaps another argument.
  *
  * Result. DWARNIZZA_ANSWERED, DWARNIZZA_ABSENT or DWARNIZZA_REFUSED. Each call
  * writes all eight words of the answer; a word that the case at hand does not
@@ -20,7 +18,19 @@
  *
  * After a refusal the outputs other than the answer keep their bytes.
  *
- * The library allocates nothing and keeps nothing between calls.
+ * Ownership. The caller owns every buffer. The library allocates nothing, frees
+ * nothing, and keeps no pointer once a call has returned.
+ *
+ * Threads. There is no state between calls, so that calls may run side by side.
+ * They may share inputs. While a call runs nothing else writes its inputs,
+ * those in a mapped file too, and nothing else reads or writes its outputs.
+ *
+ * Needs. The library calls memcpy and memset, and nothing else that it does not
+ * bring along.
+ *
+ * Platforms. The library is built for x86-64 Linux: an ELF object, little-endian,
+ * position-independent, with no instruction that an x86-64 processor may lack.
+ * It is tested there and nowhere else.
  */
 #ifndef DWARNIZZA_H
 #define DWARNIZZA_H
@@ -32,6 +42,12 @@
 extern "C" {
 #endif
 
+/* The version of this header and of the library that it came with. */
+#define DWARNIZZA_VERSION "0.1.0"
+#define DWARNIZZA_VERSION_MAJOR 0
+#define DWARNIZZA_VERSION_MINOR 1
+#define DWARNIZZA_VERSION_PATCH 0
+
 /* The results. */
 enum {
     DWARNIZZA_ANSWERED = 0, /* passed, found or written */
@@ -39,49 +55,77 @@ enum {
     DWARNIZZA_REFUSED = 2
 };
 
-/* The numbers of refusal. */
+/*
+ * The refusals: name, number, words, and what the place counts ("" where the
+ * number names no place).
+ */
+#define DWARNIZZA_REFUSALS(X) \
+    X(DWARNIZZA_INDEX_SHORT, 1, "index under 28 bytes", "") \
+    X(DWARNIZZA_FOOTER_FIELD, 2, "a footer field outside its list", "") \
+    X(DWARNIZZA_FOOTER_HASH, 3, "footer hash wrong", "") \
+    X(DWARNIZZA_ENTRY_COUNT, 4, "more than 8,388,608 entries", "") \
+    X(DWARNIZZA_INDEX_LENGTH, 5, "file length wrong", "") \
+    X(DWARNIZZA_INDEX_PAGE_HASH, 6, "page hash wrong", "page") \
+    X(DWARNIZZA_INDEX_PADDING, 7, "padding not zero", "page") \
+    X(DWARNIZZA_INDEX_ORDER, 8, "key not above the one before", "entry") \
+    X(DWARNIZZA_LAST_KEY, 9, "stored last key wrong", "page") \
+    X(DWARNIZZA_INDEX_KEY_LENGTH, 10, "sought key not of the index's key length", "") \
+    X(DWARNIZZA_SETTINGS, 11, "settings wrong", "") \
+    X(DWARNIZZA_LIST_LENGTH, 12, "list not whole entries", "") \
+    X(DWARNIZZA_OUTPUT_SHORT, 13, "output shorter than the file or list to be written", "") \
+    X(DWARNIZZA_NOT_BLTE, 20, "envelope under 8 bytes, or not BLTE", "") \
+    X(DWARNIZZA_ENVELOPE_HEADER, 21, "envelope's header size, flags or chunk count wrong, or header past the end", "") \
+    X(DWARNIZZA_CHUNK_SIZES, 22, "an empty chunk, or sizes not adding up to the rest", "") \
+    X(DWARNIZZA_CHUNK_HASH, 23, "chunk hash wrong", "chunk") \
+    X(DWARNIZZA_CHUNK_MODE, 24, "chunk mode not N", "chunk") \
+    X(DWARNIZZA_DECODED_SIZE, 25, "decoded size not encoded size less 1", "chunk") \
+    X(DWARNIZZA_CONTENT_OUTPUT_SHORT, 26, "output shorter than the content", "") \
+    X(DWARNIZZA_ENVELOPE_KEY, 27, "envelope key not the one given", "") \
+    X(DWARNIZZA_NOT_ENCODING, 30, "encoding file under 22 bytes, or not EN", "") \
+    X(DWARNIZZA_ENCODING_HEADER, 31, "a header field of the encoding file wrong", "") \
+    X(DWARNIZZA_ENCODING_CUT, 32, "parts of the encoding file run past its end", "") \
+    X(DWARNIZZA_SPEC_TABLE_OPEN, 33, "last spec not closed", "") \
+    X(DWARNIZZA_ENCODING_PAGE_HASH, 34, "page hash wrong", "page") \
+    X(DWARNIZZA_ENTRY_OVER_PAGE, 35, "entry over the page's end", "page") \
+    X(DWARNIZZA_ENCODING_ORDER, 36, "key not above the one before", "page") \
+    X(DWARNIZZA_FIRST_KEY, 37, "first key wrong", "page") \
+    X(DWARNIZZA_SPEC_NUMBER, 38, "spec number past the table", "") \
+    X(DWARNIZZA_ENCODING_KEY_LENGTH, 39, "sought key not of the encoding file's key length", "") \
+    X(DWARNIZZA_BLOCK_CUT, 40, "block cut", "block at byte") \
+    X(DWARNIZZA_ID_RANGE, 41, "id outside its range", "block at byte") \
+    X(DWARNIZZA_ROOT_HEADER_SIZE, 42, "root header size from 16 to 19", "") \
+    X(DWARNIZZA_ROOT_HEADER_CUT, 43, "root header cut", "") \
+    X(DWARNIZZA_ROOT_VERSION, 44, "root version 4", "") \
+    X(DWARNIZZA_HASH_LIMIT, 50, "more than 2^48 bytes hashed", "") \
+    X(DWARNIZZA_KEY_TEXT_LENGTH, 60, "key text not two characters for each byte of the key", "") \
+    X(DWARNIZZA_HEX_DIGIT, 61, "not a hex digit", "digit") \
+    X(DWARNIZZA_LISTING_INPUT, 70, "listing input above 65,536 bytes", "")
+
 enum {
-    DWARNIZZA_INDEX_SHORT = 1,           /* index under 28 bytes */
-    DWARNIZZA_FOOTER_FIELD = 2,          /* a footer field outside its list */
-    DWARNIZZA_FOOTER_HASH = 3,           /* footer hash wrong */
-    DWARNIZZA_ENTRY_COUNT = 4,           /* more than 8,388,608 entries */
-    DWARNIZZA_INDEX_LENGTH = 5,          /* file length wrong */
-    DWARNIZZA_INDEX_PAGE_HASH = 6,       /* page hash wrong; place: page */
-    DWARNIZZA_INDEX_PADDING = 7,         /* padding not zero; place: page */
-    DWARNIZZA_INDEX_ORDER = 8,           /* key not above the one before; place: entry */
-    DWARNIZZA_LAST_KEY = 9,              /* stored last key wrong; place: page */
-    DWARNIZZA_INDEX_KEY_LENGTH = 10,     /* sought key not of the index's key length */
-    DWARNIZZA_SETTINGS = 11,             /* settings wrong */
-    DWARNIZZA_LIST_LENGTH = 12,          /* list not whole entries */
-    DWARNIZZA_OUTPUT_SHORT = 13,         /* output shorter than what is to be written */
-    DWARNIZZA_NOT_BLTE = 20,             /* under 8 bytes, or not BLTE */
-    DWARNIZZA_ENVELOPE_HEADER = 21,      /* a header field wrong, or header past the end */
-    DWARNIZZA_CHUNK_SIZES = 22,          /* an empty chunk, or sizes not adding up to the rest */
-    DWARNIZZA_CHUNK_HASH = 23,           /* chunk hash wrong; place: chunk */
-    DWARNIZZA_CHUNK_MODE = 24,           /* chunk mode not N; place: chunk */
-    DWARNIZZA_DECODED_SIZE = 25,         /* decoded size not encoded size less 1; place: chunk */
-    DWARNIZZA_CONTENT_OUTPUT_SHORT = 26, /* output shorter than the content */
-    DWARNIZZA_ENVELOPE_KEY = 27,         /* envelope key not the one given */
-    DWARNIZZA_NOT_ENCODING = 30,         /* under 22 bytes, or not EN */
-    DWARNIZZA_ENCODING_HEADER = 31,      /* a header field outside its range */
-    DWARNIZZA_ENCODING_CUT = 32,         /* parts run past the end */
-    DWARNIZZA_SPEC_TABLE_OPEN = 33,      /* last spec not closed */
-    DWARNIZZA_ENCODING_PAGE_HASH = 34,   /* page hash wrong; place: page */
-    DWARNIZZA_ENTRY_OVER_PAGE = 35,      /* entry over the page's end; place: page */
-    DWARNIZZA_ENCODING_ORDER = 36,       /* key not above the one before; place: page */
-    DWARNIZZA_FIRST_KEY = 37,            /* first key wrong; place: page */
-    DWARNIZZA_SPEC_NUMBER = 38,          /* spec number past the table */
-    DWARNIZZA_ENCODING_KEY_LENGTH = 39,  /* sought key not of the file's key length */
-    DWARNIZZA_BLOCK_CUT = 40,            /* block cut; place: byte offset of the block */
-    DWARNIZZA_ID_RANGE = 41,             /* id outside its range; place: as of 40 */
-    DWARNIZZA_ROOT_HEADER_SIZE = 42,     /* header size from 16 to 19 */
-    DWARNIZZA_ROOT_HEADER_CUT = 43,      /* header cut */
-    DWARNIZZA_ROOT_VERSION = 44,         /* version 4 */
-    DWARNIZZA_HASH_LIMIT = 50,           /* more than 2^48 bytes hashed */
-    DWARNIZZA_KEY_TEXT_LENGTH = 60,      /* key text not 2 * K characters */
-    DWARNIZZA_HEX_DIGIT = 61,            /* not a hex digit; place: digit */
-    DWARNIZZA_LISTING_INPUT = 70         /* listing input above 65,536 bytes */
+#define DWARNIZZA_NUMBER(name, number, words, place) name = number,
+    DWARNIZZA_REFUSALS(DWARNIZZA_NUMBER)
+#undef DWARNIZZA_NUMBER
 };
+
+/* What a refusal of this number says. */
+static inline const char *dwarnizza_words(uint64_t number) {
+    switch (number) {
+#define DWARNIZZA_WORDS(name, number, words, place) case number: return words;
+        DWARNIZZA_REFUSALS(DWARNIZZA_WORDS)
+#undef DWARNIZZA_WORDS
+    default: return "unknown refusal";
+    }
+}
+
+/* What the place of such a refusal counts; "" where the number names none. */
+static inline const char *dwarnizza_place_words(uint64_t number) {
+    switch (number) {
+#define DWARNIZZA_PLACE(name, number, words, place) case number: return place;
+        DWARNIZZA_REFUSALS(DWARNIZZA_PLACE)
+#undef DWARNIZZA_PLACE
+    default: return "place";
+    }
+}
 
 /*
  * MD5 (RFC 1321)

@@ -1,0 +1,10 @@
+//! What each export leaves: all eight words of the answer, and the outputs.
+
+mod call;
+mod chain;
+mod encoding;
+mod envelope;
+mod index;
+mod key;
+mod md5;
+mod root;
