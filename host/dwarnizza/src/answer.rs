@@ -1,17 +1,16 @@
 //! The convention of every export: a result, and an answer of eight words.
 
-use crate::refusal::{Link, Refusal};
+use crate::refusal::{Link, Reason, Refusal};
+
+/// The words of an answer.
+pub type Words = [u64; 8];
 
 const ANSWERED: u32 = 0;
 const ABSENT: u32 = 1;
 const REFUSED: u32 = 2;
 
-/// An answer that no call leaves.
-#[cfg(test)]
-pub const UNWRITTEN: [u64; 8] = [u64::MAX; 8];
-
 /// Makes a call that answers or refuses, and gives the words of its answer.
-pub fn answered(call: impl FnOnce(&mut [u64; 8]) -> u32) -> Result<[u64; 8], Refusal> {
+pub fn answered(call: impl FnOnce(&mut Words) -> u32) -> Result<Words, Refusal> {
     let mut words = [0; 8];
     match call(&mut words) {
         ANSWERED => Ok(words),
@@ -23,12 +22,22 @@ pub fn answered(call: impl FnOnce(&mut [u64; 8]) -> u32) -> Result<[u64; 8], Ref
 /// The words of the answer to a search.
 #[derive(Clone, Copy, Debug, PartialEq, Eq)]
 pub enum Search {
-    Found([u64; 8]),
-    Absent([u64; 8]),
+    Found(Words),
+    Absent(Words),
+}
+
+impl Search {
+    /// The words of what was found.
+    pub fn found(self) -> Option<Words> {
+        match self {
+            Search::Found(words) => Some(words),
+            Search::Absent(_) => None,
+        }
+    }
 }
 
 /// Makes a call that finds, misses or refuses, and gives the words of its answer.
-pub fn searched(call: impl FnOnce(&mut [u64; 8]) -> u32) -> Result<Search, Refusal> {
+pub fn searched(call: impl FnOnce(&mut Words) -> u32) -> Result<Search, Refusal> {
     let mut words = [0; 8];
     match call(&mut words) {
         ANSWERED => Ok(Search::Found(words)),
@@ -38,17 +47,39 @@ pub fn searched(call: impl FnOnce(&mut [u64; 8]) -> u32) -> Result<Search, Refus
     }
 }
 
-fn refusal(words: &[u64; 8]) -> Refusal {
+/// What a call gives that is refused nothing, by a check that was made before.
+pub fn unrefused<T>(answer: Result<T, Refusal>) -> T {
+    match answer {
+        Ok(answer) => answer,
+        Err(refusal) => panic!("the library refused what it had passed: {refusal}"),
+    }
+}
+
+fn refusal(words: &Words) -> Refusal {
+    let [reason, place, chain_link, ..] = *words;
+    let Some(reason) = Reason::from_number(number(reason)) else {
+        panic!("the library gave the refusal {reason}, which is none");
+    };
     Refusal {
-        number: number(words[0]),
-        place: words[1],
-        link: link(words[2]),
+        reason,
+        place,
+        link: link(chain_link),
     }
 }
 
 /// The number of 32 bits that a word is.
 pub fn number(word: u64) -> u32 {
     u32::try_from(word).expect("it has 32 bits")
+}
+
+/// The length, count or place in a slice that a word is.
+pub fn size(word: u64) -> usize {
+    usize::try_from(word).expect("what is in a slice is counted by a usize")
+}
+
+/// The part of a file that an answer names.
+pub fn part(file: &[u8], place: u64, length: u64) -> &[u8] {
+    &file[size(place)..][..size(length)]
 }
 
 /// The link that a word names; none outside a chain.
@@ -66,10 +97,10 @@ pub fn link(word: u64) -> Option<Link> {
 mod tests {
     use super::*;
 
-    const WORDS: [u64; 8] = [1, 2, 3, 4, 5, 6, 7, 8];
+    const WORDS: Words = [1, 2, 3, 4, 5, 6, 7, 8];
 
     /// A call that leaves these words and this result.
-    fn call(words: [u64; 8], result: u32) -> impl Fn(&mut [u64; 8]) -> u32 {
+    fn call(words: Words, result: u32) -> impl Fn(&mut Words) -> u32 {
         move |answer| {
             *answer = words;
             result
@@ -84,7 +115,7 @@ mod tests {
     }
 
     #[test]
-    fn a_refusal_has_number_place_and_link() {
+    fn a_refusal_has_reason_place_and_link() {
         let links = [
             None,
             Some(Link::Root),
@@ -94,12 +125,24 @@ mod tests {
         for (word, link) in (0..).zip(links) {
             let call = call([8, 3, word, 0, 0, 0, 0, 0], REFUSED);
             let refusal = Refusal {
-                number: 8,
+                reason: Reason::IndexOrder,
                 place: 3,
                 link,
             };
             assert_eq!(answered(&call), Err(refusal));
             assert_eq!(searched(&call), Err(refusal));
         }
+    }
+
+    #[test]
+    #[should_panic(expected = "the library gave the refusal 14, which is none")]
+    fn a_number_that_is_none() {
+        let _ = answered(call([14, 0, 0, 0, 0, 0, 0, 0], REFUSED));
+    }
+
+    #[test]
+    #[should_panic(expected = "the library gave the result 3, which is none")]
+    fn a_result_that_is_none() {
+        let _ = searched(call(WORDS, 3));
     }
 }

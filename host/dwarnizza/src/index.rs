@@ -1,22 +1,218 @@
 //! Archive indexes: for each encoding key, its encoded size and location.
+//!
+//! ```
+//! use dwarnizza::Index;
+//! use dwarnizza::index::{Settings, entry_bytes};
+//!
+//! let settings = Settings { version: 1, offset_width: 4, key_length: 1 };
+//! let list = entry_bytes(settings, [5], 7, 0, 9)?; // key 05, size 7, offset 9
+//! let file = Index::write(settings, &list)?;
+//!
+//! let index = Index::check(&file)?;
+//! let entry = index.find([5])?.found().expect("it is there");
+//! assert_eq!((entry.size, entry.location), (7, 9));
+//! assert_eq!(index.list(), list);
+//! # Ok::<(), dwarnizza::Refusal>(())
+//! ```
 
+mod checked;
 mod entry;
-mod listing;
 mod lookup;
-mod put;
-mod write;
+mod parts;
+mod unchecked;
 
-pub use entry::{IndexEntry, unchecked_entry};
-pub use listing::{listing, listing_text};
-pub use lookup::{Entry, Lookup, Page, Slot, bound, lookup};
-pub use put::put_entry;
-pub use write::{write, written_length};
+pub use checked::{CheckedIndex, Entries};
+pub use entry::{IndexEntry, entry_bytes, entry_bytes_into};
+pub use lookup::{Entry, Lookup, Page, Slot};
+pub use parts::{Footer, PageParts};
+pub use unchecked::UncheckedIndex;
 
-use crate::answer::answered;
-use crate::ffi;
+use crate::answer::{Words, size, unrefused};
+use crate::library;
 use crate::refusal::Refusal;
 
+/// Where calls on archive indexes begin: [`Index::check`] or [`Index::unchecked`] for one that is
+/// there, [`Index::write`] for a new one.
+///
+/// ```
+/// use dwarnizza::Index;
+///
+/// let name = "../../sample/archives/066a04990bc3bbc7c21bab87f0144807.index";
+/// let file = std::fs::read(name)?;
+/// assert!(Index::check(&file).is_ok());
+/// # Ok::<(), Box<dyn std::error::Error>>(())
+/// ```
+#[derive(Debug)]
+pub enum Index {}
+
+impl Index {
+    /// The full check of an index.
+    ///
+    /// Refused, by the first that holds, with [`IndexShort`], [`FooterField`], [`FooterHash`],
+    /// [`EntryCount`], [`IndexLength`], and then page by page with [`IndexPageHash`],
+    /// [`IndexPadding`], [`IndexOrder`], [`LastKey`].
+    ///
+    /// ```
+    /// use dwarnizza::{Index, Reason};
+    ///
+    /// let refused = Index::check(b"not an index").unwrap_err();
+    /// assert_eq!(refused.reason, Reason::IndexShort);
+    /// ```
+    ///
+    /// [`IndexShort`]: crate::Reason::IndexShort
+    /// [`FooterField`]: crate::Reason::FooterField
+    /// [`FooterHash`]: crate::Reason::FooterHash
+    /// [`EntryCount`]: crate::Reason::EntryCount
+    /// [`IndexLength`]: crate::Reason::IndexLength
+    /// [`IndexPageHash`]: crate::Reason::IndexPageHash
+    /// [`IndexPadding`]: crate::Reason::IndexPadding
+    /// [`IndexOrder`]: crate::Reason::IndexOrder
+    /// [`LastKey`]: crate::Reason::LastKey
+    pub fn check(index: &[u8]) -> Result<CheckedIndex<'_>, Refusal> {
+        let summary = Summary::from_words(library::index_check(index)?);
+        Ok(CheckedIndex::new(index, summary))
+    }
+
+    /// Bytes that nobody checked. A search in them makes only the checks of footer and length, and
+    /// may miss a key that the index has.
+    ///
+    /// ```
+    /// use dwarnizza::{Index, Reason};
+    ///
+    /// let refused = Index::unchecked(b"not an index").summary().unwrap_err();
+    /// assert_eq!(refused.reason, Reason::IndexShort);
+    /// ```
+    pub fn unchecked(index: &[u8]) -> UncheckedIndex<'_> {
+        UncheckedIndex::new(index)
+    }
+
+    /// The index of a list with these settings. A list is of entries' bytes, in order, with nothing
+    /// between.
+    ///
+    /// What is written passes [`Index::check`], and its list and settings are those given. The list
+    /// of an index that passes it, written with that index's settings, gives the same file but for
+    /// the eight bytes of the contents hash.
+    ///
+    /// Refused, by the first that holds, with [`Settings`], [`ListLength`], [`EntryCount`] and
+    /// [`IndexOrder`].
+    ///
+    /// ```
+    /// use dwarnizza::Index;
+    ///
+    /// let name = "../../sample/archives/066a04990bc3bbc7c21bab87f0144807.index";
+    /// let file = std::fs::read(name)?;
+    /// let index = Index::check(&file)?;
+    /// assert_eq!(Index::write(index.settings(), &index.list())?, file);
+    /// # Ok::<(), Box<dyn std::error::Error>>(())
+    /// ```
+    ///
+    /// [`Settings`]: crate::Reason::Settings
+    /// [`ListLength`]: crate::Reason::ListLength
+    /// [`EntryCount`]: crate::Reason::EntryCount
+    /// [`IndexOrder`]: crate::Reason::IndexOrder
+    pub fn write(settings: Settings, list: &[u8]) -> Result<Vec<u8>, Refusal> {
+        let mut file = vec![0; Self::written_length(settings, list)?];
+        unrefused(Self::write_into(settings, list, &mut file));
+        Ok(file)
+    }
+
+    /// Writes the index of a list with these settings to the start of `output`, and gives its
+    /// length. The bytes past it stay.
+    ///
+    /// Refused as [`Index::write`] refuses, and then with [`OutputShort`] where the output is
+    /// shorter than the index; the output is then as it was.
+    ///
+    /// ```
+    /// use dwarnizza::index::Settings;
+    /// use dwarnizza::{Index, Reason};
+    ///
+    /// let settings = Settings { version: 1, offset_width: 4, key_length: 16 };
+    /// let refused = Index::write_into(settings, &[], &mut []).unwrap_err();
+    /// assert_eq!(refused.reason, Reason::OutputShort);
+    /// ```
+    ///
+    /// [`OutputShort`]: crate::Reason::OutputShort
+    pub fn write_into(
+        settings: Settings,
+        list: &[u8],
+        output: &mut [u8],
+    ) -> Result<usize, Refusal> {
+        let [length, ..] = library::index_write(settings, list, output)?;
+        Ok(size(length))
+    }
+
+    /// The length of the index of a list with these settings.
+    ///
+    /// Refused as [`Index::write`] refuses.
+    ///
+    /// ```
+    /// use dwarnizza::Index;
+    /// use dwarnizza::index::Settings;
+    ///
+    /// let settings = Settings { version: 1, offset_width: 4, key_length: 16 };
+    /// let length = Index::written_length(settings, &[])?;
+    /// assert_eq!(Index::write(settings, &[])?.len(), length);
+    /// # Ok::<(), dwarnizza::Refusal>(())
+    /// ```
+    pub fn written_length(settings: Settings, list: &[u8]) -> Result<usize, Refusal> {
+        let [length, ..] = library::index_written_length(settings, list)?;
+        Ok(size(length))
+    }
+
+    /// The listing of an index: a line for the whole, then one for each entry.
+    ///
+    /// Refused with [`ListingInput`] above 65,536 bytes, then as [`Index::check`] refuses.
+    ///
+    /// ```
+    /// use dwarnizza::Index;
+    /// use dwarnizza::index::{Settings, entry_bytes};
+    ///
+    /// let settings = Settings { version: 1, offset_width: 4, key_length: 1 };
+    /// let file = Index::write(settings, &entry_bytes(settings, [5], 7, 0, 9)?)?;
+    /// let text = "index key=1 offset=4 entries=1 pages=1\n05 7 - 9\n";
+    /// assert_eq!(Index::listing(&file)?, text);
+    /// # Ok::<(), dwarnizza::Refusal>(())
+    /// ```
+    ///
+    /// [`ListingInput`]: crate::Reason::ListingInput
+    pub fn listing(index: &[u8]) -> Result<String, Refusal> {
+        let mut text = vec![0; Self::listing_into(index, &mut [])?];
+        unrefused(Self::listing_into(index, &mut text));
+        Ok(String::from_utf8(text).expect("a listing is text"))
+    }
+
+    /// Writes the listing of an index to the start of `output` where it fits, and gives its length.
+    /// The bytes past it stay, and all of them where it does not fit.
+    ///
+    /// Refused as [`Index::listing`] refuses; the output is then as it was.
+    ///
+    /// ```
+    /// use dwarnizza::Index;
+    ///
+    /// let name = "../../sample/archives/066a04990bc3bbc7c21bab87f0144807.index";
+    /// let file = std::fs::read(name)?;
+    /// let mut output = vec![0; 10_000];
+    /// let length = Index::listing_into(&file, &mut output)?;
+    /// assert_eq!(output[..length], *Index::listing(&file)?.as_bytes());
+    /// # Ok::<(), Box<dyn std::error::Error>>(())
+    /// ```
+    pub fn listing_into(index: &[u8], output: &mut [u8]) -> Result<usize, Refusal> {
+        let [length, ..] = library::index_listing(index, output)?;
+        Ok(size(length))
+    }
+}
+
 /// What an index says of itself.
+///
+/// ```
+/// use dwarnizza::Index;
+///
+/// let name = "../../sample/archives/066a04990bc3bbc7c21bab87f0144807.index";
+/// let file = std::fs::read(name)?;
+/// let summary = Index::check(&file)?.summary();
+/// assert_eq!((summary.entries, summary.pages), (21, 1));
+/// # Ok::<(), Box<dyn std::error::Error>>(())
+/// ```
 #[derive(Clone, Copy, Debug, PartialEq, Eq)]
 pub struct Summary {
     /// How its entries are laid out.
@@ -29,21 +225,31 @@ pub struct Summary {
 
 impl Summary {
     /// The summary that an answer names.
-    fn from_words(words: [u64; 8]) -> Self {
+    fn from_words(words: Words) -> Self {
         let [version, offset_width, key_length, entries, pages, ..] = words;
+        let setting = |word| u8::try_from(word).expect("a setting has 8 bits");
         Self {
             settings: Settings {
                 version: setting(version),
                 offset_width: setting(offset_width),
                 key_length: setting(key_length),
             },
-            entries: count(entries),
-            pages: count(pages),
+            entries: size(entries),
+            pages: size(pages),
         }
     }
 }
 
 /// The settings of an index.
+///
+/// ```
+/// use dwarnizza::index::Settings;
+/// use dwarnizza::{Index, Reason};
+///
+/// let settings = Settings { version: 1, offset_width: 7, key_length: 16 };
+/// let refused = Index::write(settings, &[]).unwrap_err();
+/// assert_eq!(refused.reason, Reason::Settings);
+/// ```
 #[derive(Clone, Copy, Debug, PartialEq, Eq)]
 pub struct Settings {
     /// The version, 0 or 1.
@@ -54,260 +260,18 @@ pub struct Settings {
     pub key_length: u8,
 }
 
-/// The full check of an index.
-///
-/// Refused, by the first that holds, with [`INDEX_SHORT`], [`FOOTER_FIELD`], [`FOOTER_HASH`],
-/// [`ENTRY_COUNT`], [`INDEX_LENGTH`], and then page by page with [`INDEX_PAGE_HASH`],
-/// [`INDEX_PADDING`], [`INDEX_ORDER`], [`LAST_KEY`].
-///
-/// ```
-/// use dwarnizza::{index, refusal};
-///
-/// let refused = index::check(b"not an index").unwrap_err();
-/// assert_eq!(refused.number, refusal::INDEX_SHORT);
-/// ```
-///
-/// [`INDEX_SHORT`]: crate::refusal::INDEX_SHORT
-/// [`FOOTER_FIELD`]: crate::refusal::FOOTER_FIELD
-/// [`FOOTER_HASH`]: crate::refusal::FOOTER_HASH
-/// [`ENTRY_COUNT`]: crate::refusal::ENTRY_COUNT
-/// [`INDEX_LENGTH`]: crate::refusal::INDEX_LENGTH
-/// [`INDEX_PAGE_HASH`]: crate::refusal::INDEX_PAGE_HASH
-/// [`INDEX_PADDING`]: crate::refusal::INDEX_PADDING
-/// [`INDEX_ORDER`]: crate::refusal::INDEX_ORDER
-/// [`LAST_KEY`]: crate::refusal::LAST_KEY
-pub fn check(index: &[u8]) -> Result<Summary, Refusal> {
-    let words = answered(|answer| {
-        // SAFETY: pointer and length are those of one slice.
-        unsafe { ffi::dwarnizza_index_check(index.as_ptr(), index.len(), answer) }
-    })?;
-    Ok(Summary::from_words(words))
-}
-
-/// What the footer of an index says, by no more than the first five refusals of [`check`]: the pages
-/// are not looked at, and the time is the same for every index.
-///
-/// ```
-/// use dwarnizza::index;
-///
-/// // An index without entries, with keys of 16 bytes.
-/// let file = b"\xd4\x1d\x8c\xd9\x8f\x00\xb2\x04\x00\x00\x00\x04\x04\x04\x10\x08\
-///              \x00\x00\x00\x00\xe0\xe3\x87\xf2\x31\x42\x6f\xd1";
-/// let summary = index::unchecked_summary(file)?;
-/// assert_eq!((summary.settings.key_length, summary.entries), (16, 0));
-/// # Ok::<(), dwarnizza::Refusal>(())
-/// ```
-pub fn unchecked_summary(index: &[u8]) -> Result<Summary, Refusal> {
-    let words = answered(|answer| {
-        // SAFETY: pointer and length are those of one slice.
-        unsafe { ffi::dwarnizza_index_settings(index.as_ptr(), index.len(), answer) }
-    })?;
-    Ok(Summary::from_words(words))
-}
-
-/// Writes the list of an index, which is its entries' bytes in order with nothing between, to the
-/// start of `output`, and gives its length. The bytes past it stay.
-///
-/// The list is shorter than the index, so an output of the index's length is long enough.
-///
-/// Refused as [`check`] refuses, and then with [`OUTPUT_SHORT`](crate::refusal::OUTPUT_SHORT) where
-/// the list does not fit; the output is then as it was.
-pub fn list(index: &[u8], output: &mut [u8]) -> Result<usize, Refusal> {
-    let [written, ..] = answered(|answer| {
-        // SAFETY: each pointer and length are those of one slice, and the slices do not overlap.
-        unsafe {
-            ffi::dwarnizza_index_list(
-                index.as_ptr(),
-                index.len(),
-                output.as_mut_ptr(),
-                output.len(),
-                answer,
-            )
-        }
-    })?;
-    Ok(count(written))
-}
-
-fn setting(word: u64) -> u8 {
-    u8::try_from(word).expect("a setting has 8 bits")
-}
-
-fn count(word: u64) -> usize {
-    usize::try_from(word).expect("a count of parts of a slice is a usize")
-}
-
-#[cfg(test)]
-mod tests {
-    use super::*;
-    use crate::answer::UNWRITTEN;
-    use crate::refusal::{FOOTER_HASH, INDEX_ORDER, LIST_LENGTH, OUTPUT_SHORT};
-
-    const LIST: [u8; 18] = [5, 0, 0, 0, 7, 0, 0, 0, 9, 6, 0, 0, 0, 8, 0, 0, 0, 7];
-
-    const SETTINGS: Settings = Settings {
-        version: 1,
-        offset_width: 4,
-        key_length: 1,
-    };
-
-    /// The index of `LIST` with `SETTINGS`.
-    fn index() -> Vec<u8> {
-        let settings = second::index::Settings {
-            version: 1,
-            offset_width: 4,
-            key_length: 1,
-        };
-        let mut index = vec![0; settings.file_len(2)];
-        let length = second::index::write(settings, &LIST, &mut index).unwrap();
-        assert_eq!(length, index.len());
-        index
-    }
-
-    /// The same with its keys in the other order, and all hashes right.
-    fn index_out_of_order() -> Vec<u8> {
-        let mut index = index();
-        index.swap(0, 9);
-        index[4096] = 5;
-        let (page, rest) = index.split_at_mut(4096);
-        let hash = second::md5::digest(page).unwrap();
-        rest[1..9].copy_from_slice(&hash[..8]);
-        index
-    }
-
-    fn call_check(index: &[u8]) -> (u32, [u64; 8]) {
-        let mut answer = UNWRITTEN;
-        // SAFETY: pointer and length are those of one slice.
-        let result =
-            unsafe { ffi::dwarnizza_index_check(index.as_ptr(), index.len(), &mut answer) };
-        (result, answer)
-    }
-
-    /// An export that reads an input and fills an output.
-    type Fill = unsafe extern "C" fn(*const u8, usize, *mut u8, usize, &mut [u64; 8]) -> u32;
-
-    fn call(fill: Fill, input: &[u8], output: &mut [u8]) -> (u32, [u64; 8]) {
-        let mut answer = UNWRITTEN;
-        // SAFETY: each pointer and length are those of one slice, and the slices do not overlap.
-        let result = unsafe {
-            fill(
-                input.as_ptr(),
-                input.len(),
-                output.as_mut_ptr(),
-                output.len(),
-                &mut answer,
-            )
-        };
-        (result, answer)
-    }
-
-    fn call_write(settings: Settings, list: &[u8], output: &mut [u8]) -> (u32, [u64; 8]) {
-        let mut answer = UNWRITTEN;
-        let result = write::call_write(settings, list, output, &mut answer);
-        (result, answer)
-    }
-
-    fn answer(length: usize) -> (u32, [u64; 8]) {
-        (0, [length as u64, 0, 0, 0, 0, 0, 0, 0])
-    }
-
-    fn refused(number: u32, place: u64) -> (u32, [u64; 8]) {
-        (2, [number.into(), place, 0, 0, 0, 0, 0, 0])
-    }
-
-    #[test]
-    fn each_call_writes_the_whole_answer() {
-        let (good, bad) = (index(), index_out_of_order());
-        assert_eq!(call_check(&good), (0, [1, 4, 1, 2, 1, 0, 0, 0]));
-        assert_eq!(call_check(&bad), refused(INDEX_ORDER, 1));
-
-        let mut output = [0xee; 18];
-        let list = ffi::dwarnizza_index_list;
-        assert_eq!(call(list, &bad, &mut output), refused(INDEX_ORDER, 1));
-        let room = &mut output[1..];
-        assert_eq!(call(list, &good, room), refused(OUTPUT_SHORT, 0));
-        assert_eq!(output, [0xee; 18]);
-        assert_eq!(call(list, &good, &mut output), answer(18));
-        assert_eq!(output, LIST);
-    }
-
-    #[test]
-    fn each_call_of_the_writer_writes_the_whole_answer() {
-        let mut output = vec![0xee; index().len() + 1];
-        let falling = [&LIST[9..], &LIST[..9]].concat();
-        let version_2 = Settings {
-            version: 2,
-            ..SETTINGS
-        };
-        for (settings, list, number, place) in [
-            (version_2, &LIST[..], crate::refusal::SETTINGS, 0),
-            (SETTINGS, &LIST[1..], LIST_LENGTH, 0),
-            (SETTINGS, &falling, INDEX_ORDER, 1),
-        ] {
-            let answer = call_write(settings, list, &mut output);
-            assert_eq!(answer, refused(number, place));
-        }
-        let room = &mut output[2..];
-        assert_eq!(call_write(SETTINGS, &LIST, room), refused(OUTPUT_SHORT, 0));
-        assert!(output.iter().all(|&byte| byte == 0xee));
-
-        let (file, rest) = output.split_at_mut(index().len());
-        assert_eq!(call_write(SETTINGS, &LIST, file), answer(file.len()));
-        assert!(file == index());
-        assert_eq!(rest, [0xee]);
-    }
-
-    #[test]
-    fn each_call_of_the_listing_writes_the_whole_answer() {
-        let listing = ffi::dwarnizza_index_listing;
-        let text = b"index key=1 offset=4 entries=2 pages=1\n05 7 - 9\n06 8 - 7\n";
-        let mut output = [0xee; 60];
-        let room = &mut output[..text.len() - 1];
-        assert_eq!(call(listing, &index(), room), answer(text.len()));
-        assert_eq!(output, [0xee; 60]);
-        assert_eq!(call(listing, &index(), &mut output), answer(text.len()));
-        let (written, rest) = output.split_at(text.len());
-        assert_eq!(written, text);
-        assert!(rest.iter().all(|&byte| byte == 0xee));
-
-        let mut output = [0xee; 60];
-        let bad = index_out_of_order();
-        assert_eq!(call(listing, &bad, &mut output), refused(INDEX_ORDER, 1));
-        assert_eq!(output, [0xee; 60]);
-    }
-
-    /// The first five refusals alone decide: keys out of order pass.
-    #[test]
-    fn the_settings_write_the_whole_answer() {
-        let call = |index: &[u8]| {
-            let mut answer = UNWRITTEN;
-            // SAFETY: pointer and length are those of one slice.
-            let result =
-                unsafe { ffi::dwarnizza_index_settings(index.as_ptr(), index.len(), &mut answer) };
-            (result, answer)
-        };
-        let mut bad = index_out_of_order();
-        assert_eq!(call(&bad), (0, [1, 4, 1, 2, 1, 0, 0, 0]));
-        let last = bad.len() - 1;
-        bad[last] ^= 1;
-        assert_eq!(call(&bad), refused(FOOTER_HASH, 0));
-    }
-
-    #[test]
-    fn each_call_of_the_written_length_writes_the_whole_answer() {
-        let call = |settings: Settings, list: &[u8]| {
-            let mut answer = UNWRITTEN;
-            let result = write::call_written_length(settings, list, &mut answer);
-            (result, answer)
-        };
-        assert_eq!(call(SETTINGS, &LIST), answer(index().len()));
-        assert_eq!(call(SETTINGS, &[]), answer(28));
-        assert_eq!(call(SETTINGS, &LIST[1..]), refused(LIST_LENGTH, 0));
-        let wide = Settings {
-            key_length: 16,
-            ..SETTINGS
-        };
-        let zeros = [0; 171 * 24];
-        assert_eq!(call(wide, &zeros[..24]), answer(4148));
-        assert_eq!(call(wide, &zeros), refused(INDEX_ORDER, 1));
+impl Settings {
+    /// Whether a location is an archive number and an offset, as in the index of several archives,
+    /// and not an offset alone: the offset width is 6.
+    ///
+    /// ```
+    /// use dwarnizza::Index;
+    ///
+    /// let file = std::fs::read("../../sample/group/8055d3f0c6896ec8ef135a1791fcec0a.index")?;
+    /// assert!(Index::check(&file)?.settings().has_archives());
+    /// # Ok::<(), Box<dyn std::error::Error>>(())
+    /// ```
+    pub fn has_archives(self) -> bool {
+        self.offset_width == 6
     }
 }

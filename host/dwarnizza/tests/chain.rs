@@ -5,9 +5,9 @@ mod forge;
 mod random;
 
 use compare::{Context, Tally, in_library_entry, in_library_terms, refusal_at};
-use dwarnizza::chain::{Build, Resolved, resolve};
-use dwarnizza::index::{Entry, Page, Slot, bound, lookup};
-use dwarnizza::{Link, Refusal, refusal};
+use dwarnizza::chain::Resolved;
+use dwarnizza::index::{Entry, Page, Slot};
+use dwarnizza::{Index, Link, Reason, Refusal, UncheckedBuild};
 use forge::build::{BuildFiles, ByKey, Files, both_resized, encoding_file, index_file, root_block};
 use forge::encoding::{self, Kind, PageFault};
 use forge::root::random_masks;
@@ -43,15 +43,14 @@ fn absent(link: Link, compared: u32) -> Answer {
     Ok(Resolved::Absent { link, compared })
 }
 
-fn refused(link: Link, number: u32, place: usize) -> Answer {
-    Err(refused_by(link, refusal_at(number, place)))
+fn refused(link: Link, reason: Reason, place: usize) -> Answer {
+    Err(refused_by(link, refusal_at(reason, place)))
 }
 
 fn refused_by(link: Link, refusal: Refusal) -> Refusal {
-    Refusal {
-        link: Some(link),
-        ..refusal
-    }
+    let mut refusal = refusal;
+    refusal.link = Some(link);
+    refusal
 }
 
 fn in_library_link(link: second::chain::Link) -> Link {
@@ -97,7 +96,7 @@ fn second_resolve(files: [&[u8]; 3], sought: Sought) -> Answer {
 fn compare(files: [&[u8]; 3], sought: Sought) -> Answer {
     let answer = second_resolve(files, sought);
     let [root, encoding, index] = files;
-    let build = Build {
+    let build = UncheckedBuild {
         root,
         encoding,
         index,
@@ -107,7 +106,8 @@ fn compare(files: [&[u8]; 3], sought: Sought) -> Answer {
         locale,
         unwanted,
     } = sought;
-    assert_eq!(resolve(&build, id, locale, unwanted), answer, "{sought:?}");
+    let by_library = build.resolve(id, locale, unwanted);
+    assert_eq!(by_library, answer, "{sought:?}");
     answer
 }
 
@@ -137,15 +137,15 @@ fn expect_plain_reading(files: [&[u8]; 3], sought: Sought, answer: Answer) {
         Ok(Resolved::Found(entry)) => {
             let plain = plain.map(|found| in_library_entry(found, entry.compared));
             assert_eq!(plain, Ok(entry));
-            assert!(entry.compared <= bound(files[2]).unwrap());
+            assert!(entry.compared <= Index::unchecked(files[2]).bound().unwrap());
         }
         Ok(Resolved::Absent { link, compared }) => {
             assert_eq!(plain.map_err(in_library_link), Err(link));
-            assert!(compared <= bound(files[2]).unwrap());
+            assert!(compared <= Index::unchecked(files[2]).bound().unwrap());
         }
-        Err(Refusal { number, .. }) => {
-            let sizes = [refusal::ENCODING_KEY_LENGTH, refusal::INDEX_KEY_LENGTH];
-            assert!(sizes.contains(&number), "refused {number}");
+        Err(Refusal { reason, .. }) => {
+            let sizes = [Reason::EncodingKeyLength, Reason::IndexKeyLength];
+            assert!(sizes.contains(&reason), "refused {reason:?}");
         }
     }
 }
@@ -214,22 +214,28 @@ fn headers() -> [Option<Header>; 3] {
     [None, header(3, 1), header(24, 2)]
 }
 
+/// How many ids a whole build has.
+const COUNT: u32 = 600;
+
+/// The link of a whole build that does not have this id, where one does not.
+fn missing(id: u32) -> Option<Link> {
+    let links = [
+        None,
+        Some(Link::Root),
+        Some(Link::Encoding),
+        Some(Link::Index),
+    ];
+    match id < COUNT {
+        true => links[id as usize % 4],
+        false => Some(Link::Root),
+    }
+}
+
 /// Builds of many blocks and pages, in which the id tells whether a link does not have it, and
 /// which.
 #[test]
 fn whole_builds() {
-    const COUNT: u32 = 600;
-    let missing = |id: u32| {
-        let links = [
-            None,
-            Some(Link::Root),
-            Some(Link::Encoding),
-            Some(Link::Index),
-        ];
-        links[id as usize % 4]
-    };
     let ids = |link| (0..COUNT).filter(move |&id| missing(id) != Some(link));
-
     // The keys are so long that they all differ.
     let long_keys = all_settings().filter(|settings| settings.key_len() >= 4);
     for (settings, header) in long_keys.zip(headers().into_iter().cycle()) {
@@ -241,23 +247,26 @@ fn whole_builds() {
         let files = slices(&files);
         assert!(passes(files));
         for id in 0..COUNT + 2 {
-            let answer = compare(files, anywhere(id));
-            expect_plain_reading(files, anywhere(id), answer);
-            let key = encoding_key(id, 0, settings.key_len());
-            let in_index = lookup(files[2], &key).expect("the index is good");
-            match missing(id) {
-                _ if id >= COUNT => assert_eq!(answer, absent(Link::Root, 0)),
-                None => {
-                    let entry = in_index.found().expect("it is there");
-                    assert_eq!(answer, Ok(Resolved::Found(entry)));
-                    assert_eq!((entry.size, entry.location), (size(id), location(id)));
-                }
-                Some(Link::Index) => {
-                    assert_eq!(answer, absent(Link::Index, in_index.compared()));
-                }
-                Some(link) => assert_eq!(answer, absent(link, 0)),
-            }
+            expect_by_id(files, settings.key_len(), id);
         }
+    }
+}
+
+/// The chain through a whole build, whose index has keys of this length.
+#[track_caller]
+fn expect_by_id(files: [&[u8]; 3], key_len: usize, id: u32) {
+    let answer = compare(files, anywhere(id));
+    expect_plain_reading(files, anywhere(id), answer);
+    let in_index = Index::unchecked(files[2]).find(encoding_key(id, 0, key_len));
+    let in_index = in_index.expect("the index is good");
+    match missing(id) {
+        None => {
+            let entry = in_index.found().expect("it is there");
+            assert_eq!(answer, Ok(Resolved::Found(entry)));
+            assert_eq!((entry.size, entry.location), (size(id), location(id)));
+        }
+        Some(Link::Index) => assert_eq!(answer, absent(Link::Index, in_index.compared())),
+        Some(link) => assert_eq!(answer, absent(link, 0)),
     }
 }
 
@@ -295,24 +304,24 @@ impl ByHand {
         let mut outside = root_block(0, 0, &[(1, [0; 16])]);
         outside.records[0].delta = -1;
         let outside = write(None, &[&self.blocks[..], &[outside]].concat());
-        let refused = |number, place| refused(Link::Root, number, place);
+        let refused = |reason, place| refused(Link::Root, reason, place);
         vec![
             (
-                refused(refusal::BLOCK_CUT, good.len()),
+                refused(Reason::BlockCut, good.len()),
                 [&good[..], &[0]].concat(),
             ),
             (
-                refused(refusal::BLOCK_CUT, 0),
+                refused(Reason::BlockCut, 0),
                 good[..good.len() - 1].to_vec(),
             ),
-            (refused(refusal::ID_RANGE, good.len()), outside),
-            (refused(refusal::ROOT_HEADER_SIZE, 0), header(19, 3)),
-            (refused(refusal::ROOT_HEADER_CUT, 0), MAGICS[0].to_vec()),
+            (refused(Reason::IdRange, good.len()), outside),
+            (refused(Reason::RootHeaderSize, 0), header(19, 3)),
+            (refused(Reason::RootHeaderCut, 0), MAGICS[0].to_vec()),
             (
-                refused(refusal::ROOT_HEADER_CUT, 0),
+                refused(Reason::RootHeaderCut, 0),
                 header(99, 2)[..98].to_vec(),
             ),
-            (refused(refusal::ROOT_VERSION, 0), header(20, 4)),
+            (refused(Reason::RootVersion, 0), header(20, 4)),
         ]
     }
 
@@ -326,28 +335,28 @@ impl ByHand {
         // Behind the spec table and the page's first key and hash: a count that the page cannot
         // hold.
         let over = with(HEADER + 2 + 16 + 16, 255);
-        let refused = |number| refused(Link::Encoding, number, 0);
+        let refused = |reason| refused(Link::Encoding, reason, 0);
         vec![
-            (refused(refusal::NOT_ENCODING), Vec::new()),
-            (refused(refusal::NOT_ENCODING), with(0, b'M')),
-            (refused(refusal::ENCODING_HEADER), with(2, 2)),
-            (refused(refusal::ENCODING_HEADER), with(3, 17)),
+            (refused(Reason::NotEncoding), Vec::new()),
+            (refused(Reason::NotEncoding), with(0, b'M')),
+            (refused(Reason::EncodingHeader), with(2, 2)),
+            (refused(Reason::EncodingHeader), with(3, 17)),
             (
-                refused(refusal::ENCODING_CUT),
+                refused(Reason::EncodingCut),
                 self.encoding[..self.encoding.len() - 1].to_vec(),
             ),
-            (refused(refusal::SPEC_TABLE_OPEN), with(HEADER + 1, b'z')),
+            (refused(Reason::SpecTableOpen), with(HEADER + 1, b'z')),
             (
-                refused(refusal::ENCODING_KEY_LENGTH),
+                refused(Reason::EncodingKeyLength),
                 encoding_of([15, Self::KEY_LEN], 5..=6),
             ),
-            (refused(refusal::ENTRY_OVER_PAGE), over),
+            (refused(Reason::EntryOverPage), over),
         ]
     }
 
     /// Indexes of which each is refused, and how: with keys of the right size and of another.
     fn bad_indexes(&self) -> Vec<(Answer, Vec<u8>)> {
-        let refused = |number| refused(Link::Index, number, 0);
+        let refused = |reason| refused(Link::Index, reason, 0);
         let mut indexes = Vec::new();
         for index in [self.index.clone(), index_of(settings(8, 5), [5])] {
             let with = |change: &dyn Fn(&mut IndexFile)| {
@@ -357,79 +366,92 @@ impl ByHand {
             };
             let short = index.bytes[index.bytes.len() - FOOTER + 1..].to_vec();
             indexes.extend([
-                (refused(refusal::INDEX_SHORT), Vec::new()),
-                (refused(refusal::INDEX_SHORT), short),
+                (refused(Reason::IndexShort), Vec::new()),
+                (refused(Reason::IndexShort), short),
                 (
-                    refused(refusal::FOOTER_FIELD),
+                    refused(Reason::FooterField),
                     with(&|file| file.footer()[HASH_LENGTH] = 16),
                 ),
                 (
-                    refused(refusal::FOOTER_HASH),
+                    refused(Reason::FooterHash),
                     with(&|file| file.footer()[FOOTER_HASH.start] ^= 1),
                 ),
                 (
-                    refused(refusal::ENTRY_COUNT),
+                    refused(Reason::EntryCount),
                     with(&|file| file.set_count(MOST_ENTRIES as u32 + 1)),
                 ),
                 (
-                    refused(refusal::INDEX_LENGTH),
+                    refused(Reason::IndexLength),
                     with(&|file| file.set_count(1000)),
                 ),
             ]);
         }
         for key_length in (1..=16).filter(|&length| usize::from(length) != Self::KEY_LEN) {
             let other = index_of(settings(key_length, 5), [5]).bytes;
-            indexes.push((refused(refusal::INDEX_KEY_LENGTH), other));
+            indexes.push((refused(Reason::IndexKeyLength), other));
         }
         indexes
     }
 }
 
-/// Each link is absent and refuses in turn. Later files are nothing to it, be they good, refused,
-/// or random bytes.
+/// A good file, the refused ones, and random bytes.
+fn with_others(random: &mut Random, good: &[u8], bad: &[(Answer, Vec<u8>)]) -> Vec<Vec<u8>> {
+    let mut files: Vec<_> = bad.iter().map(|(_, file)| file.clone()).collect();
+    files.push(good.to_vec());
+    files.push(random.bytes(5000));
+    files
+}
+
+/// The root file does not find. Later files are nothing to it, be they good, refused, or random
+/// bytes.
 #[test]
-fn the_first_link_that_does_not_find() {
+fn the_root_file_does_not_find() {
     let mut random = Random::new();
     let build = ByHand::new();
     let root = &build.root()[..];
     let bad_roots = build.bad_roots();
-    let bad_encodings = build.bad_encodings();
-    let bad_indexes = build.bad_indexes();
-    let mut with_others = |good: &[u8], bad: &[(Answer, Vec<u8>)]| {
-        let mut files: Vec<_> = bad.iter().map(|(_, file)| file.clone()).collect();
-        files.push(good.to_vec());
-        files.push(random.bytes(5000));
-        files
-    };
-    let encodings = with_others(&build.encoding, &bad_encodings);
-    let indexes = with_others(&build.index.bytes, &bad_indexes);
-
-    let absent_by_root = [0, 4, 8, u32::MAX].map(|id| (absent(Link::Root, 0), root, id));
-    let refused_by_root = bad_roots
+    let encodings = with_others(&mut random, &build.encoding, &build.bad_encodings());
+    let indexes = with_others(&mut random, &build.index.bytes, &build.bad_indexes());
+    let absent = [0, 4, 8, u32::MAX].map(|id| (absent(Link::Root, 0), root, id));
+    let refused = bad_roots
         .iter()
         .flat_map(|(expected, file)| [5, 6, 7, 8].map(|id| (*expected, &file[..], id)));
-    for (expected, root, id) in absent_by_root.into_iter().chain(refused_by_root) {
+    for (expected, root, id) in absent.into_iter().chain(refused) {
         for encoding in &encodings {
             for index in &indexes {
                 assert_eq!(compare([root, encoding, index], anywhere(id)), expected);
             }
         }
     }
+}
 
-    let absent_by_encoding = (absent(Link::Encoding, 0), &build.encoding[..], 7);
-    let refused_by_encoding = bad_encodings
+/// The encoding file does not find, whatever the index is.
+#[test]
+fn the_encoding_file_does_not_find() {
+    let mut random = Random::new();
+    let build = ByHand::new();
+    let root = build.root();
+    let bad_encodings = build.bad_encodings();
+    let indexes = with_others(&mut random, &build.index.bytes, &build.bad_indexes());
+    let absent = (absent(Link::Encoding, 0), &build.encoding[..], 7);
+    let refused = bad_encodings
         .iter()
         .flat_map(|(expected, file)| [5, 6].map(|id| (*expected, &file[..], id)));
-    for (expected, encoding, id) in refused_by_encoding.chain([absent_by_encoding]) {
+    for (expected, encoding, id) in refused.chain([absent]) {
         for index in &indexes {
-            assert_eq!(compare([root, encoding, index], anywhere(id)), expected);
+            assert_eq!(compare([&root, encoding, index], anywhere(id)), expected);
         }
     }
+}
 
-    for (expected, index) in &bad_indexes {
+#[test]
+fn the_index_refuses() {
+    let build = ByHand::new();
+    let root = build.root();
+    for (expected, index) in build.bad_indexes() {
         for id in [5, 6] {
-            let files = [root, &build.encoding, index];
-            assert_eq!(compare(files, anywhere(id)), *expected);
+            let files = [&root[..], &build.encoding, &index];
+            assert_eq!(compare(files, anywhere(id)), expected);
         }
     }
 }
@@ -480,11 +502,11 @@ fn key_sizes() {
                 assert!(passes(files));
                 let answer = compare(files, anywhere(ID));
                 if key_len != 16 {
-                    let number = refusal::ENCODING_KEY_LENGTH;
-                    assert_eq!(answer, refused(Link::Encoding, number, 0));
+                    let reason = Reason::EncodingKeyLength;
+                    assert_eq!(answer, refused(Link::Encoding, reason, 0));
                 } else if encoding_key_len != index_key_len {
-                    let number = refusal::INDEX_KEY_LENGTH;
-                    assert_eq!(answer, refused(Link::Index, number, 0));
+                    let reason = Reason::IndexKeyLength;
+                    assert_eq!(answer, refused(Link::Index, reason, 0));
                 } else {
                     assert!(matches!(answer, Ok(Resolved::Found(_))));
                 }
@@ -632,10 +654,8 @@ fn two_hundred_thousand_ids() {
         assert!(passes(slices(&good.files())));
         for _ in 0..FROM_EACH {
             let (kinds, files) = good.spoilt(&mut random);
-            let _contexts = kinds.map(|kind| Context {
-                number: builds,
-                kind,
-            });
+            let number = builds;
+            let _contexts = kinds.map(|kind| Context { number, kind });
             builds += 1;
             let files = slices(&files);
             let checked = passes(files);

@@ -4,11 +4,12 @@ mod compare;
 mod forge;
 mod random;
 
+use std::ops::Range;
 use std::ptr;
 
 use compare::{Tally, in_library_terms, refusal_at};
-use dwarnizza::encoding::{ContentEntry, EncodingEntry, check, find_content, find_encoding, spec};
-use dwarnizza::{Refusal, refusal};
+use dwarnizza::encoding::{ContentEntry, EncodingEntry};
+use dwarnizza::{Encoding, Reason, Refusal};
 use forge::encoding::{BOTH, EncodingFile, Fault, KINDS, Kind};
 use forge::{beside, for_files_of};
 use random::Random;
@@ -18,7 +19,7 @@ use second::encoding::{HEADER, PADDING, Parts, TableParts, write};
 #[track_caller]
 fn compare_check(file: &[u8]) -> Result<(), Refusal> {
     let answer = second::encoding::check(file).map_err(in_library_terms);
-    assert_eq!(check(file), answer);
+    assert_eq!(Encoding::check(file).map(|_| ()), answer);
     answer
 }
 
@@ -34,7 +35,7 @@ fn compare_content<'a>(file: &'a [u8], key: &[u8]) -> Result<Option<ContentEntry
             encoding_keys: entry.encoding_keys,
         })
     });
-    let by_library = find_content(file, key);
+    let by_library = Encoding::unchecked(file).find_content(key);
     assert_eq!(by_library, answer, "the key is {key:02x?}");
     if let (Ok(Some(one)), Ok(Some(other))) = (by_library, answer) {
         assert!(ptr::eq(one.encoding_keys, other.encoding_keys));
@@ -53,7 +54,7 @@ fn compare_encoding<'a>(file: &'a [u8], key: &[u8]) -> Result<Option<EncodingEnt
             spec,
         })
     });
-    let by_library = find_encoding(file, key);
+    let by_library = Encoding::unchecked(file).find_encoding(key);
     assert_eq!(by_library, answer, "the key is {key:02x?}");
     if let (Ok(Some(one)), Ok(Some(other))) = (by_library, answer) {
         assert!(ptr::eq(one.spec, other.spec));
@@ -65,7 +66,7 @@ fn compare_encoding<'a>(file: &'a [u8], key: &[u8]) -> Result<Option<EncodingEnt
 #[track_caller]
 fn compare_spec(file: &[u8], number: u32) -> Result<&[u8], Refusal> {
     let answer = second::encoding::spec(file, number).map_err(in_library_terms);
-    let by_library = spec(file, number);
+    let by_library = Encoding::unchecked(file).spec(number);
     assert_eq!(by_library, answer, "the number is {number}");
     if let (Ok(one), Ok(other)) = (by_library, answer) {
         assert!(ptr::eq(one, other));
@@ -118,7 +119,7 @@ fn m12_specs_by_number() {
     assert_eq!(compare_check(&file), Ok(()));
     assert_eq!(compare_spec(&file, 0), Ok(&b"n"[..]));
     assert_eq!(compare_spec(&file, 1), Ok(&b"z"[..]));
-    let past = Err(refusal_at(refusal::SPEC_NUMBER, 0));
+    let past = Err(refusal_at(Reason::SpecNumber, 0));
     assert_eq!(compare_spec(&file, 2), past);
 }
 
@@ -135,7 +136,7 @@ fn specs() {
     for (number, string) in (0..).zip(&strings) {
         assert_eq!(compare_spec(&file, number), Ok(&string[..]));
     }
-    let past = Err(refusal_at(refusal::SPEC_NUMBER, 0));
+    let past = Err(refusal_at(Reason::SpecNumber, 0));
     for number in [3000, 3001, 1 << 31, u32::MAX] {
         assert_eq!(compare_spec(&file, number), past);
     }
@@ -199,7 +200,7 @@ fn every_pair_of_key_sizes() {
             }
             for length in (0..=20).filter(|&length| length != key_len) {
                 let answer = compare_lookup(&file.bytes, kind, &vec![5; length]);
-                let refused = refusal_at(refusal::ENCODING_KEY_LENGTH, 0);
+                let refused = refusal_at(Reason::EncodingKeyLength, 0);
                 assert_eq!(answer, Err(refused));
                 tally.add(&answer);
             }
@@ -241,7 +242,7 @@ fn many_pages_and_large_ones() {
     for pages in [content_pages, encoding_pages] {
         let mut file = many.clone();
         file[pages + 699 * 1024 + 500] ^= 1;
-        let refused = Err(refusal_at(refusal::ENCODING_PAGE_HASH, 699));
+        let refused = Err(refusal_at(Reason::EncodingPageHash, 699));
         assert_eq!(compare_check(&file), refused);
     }
 }
@@ -257,7 +258,7 @@ fn parts_past_the_end() {
         for (at, bytes) in edits {
             file[at..][..bytes.len()].copy_from_slice(bytes);
         }
-        let cut = refusal_at(refusal::ENCODING_CUT, 0);
+        let cut = refusal_at(Reason::EncodingCut, 0);
         assert_eq!(compare_check(&file), Err(cut));
         for kind in BOTH {
             assert_eq!(compare_lookup(&file, kind, &[5]), Err(cut));
@@ -351,11 +352,9 @@ fn first_keys_in_any_order() {
     }
 }
 
-/// Each start of a small file, and each byte of it with other values: all of them in the first bytes
-/// of entries and in what is no page. Pages also with the right hash.
-#[test]
-fn every_byte() {
-    // A full content page: the entries start at bytes 0, 262, 524 and 786.
+/// A small file with a full content page, whose entries start at bytes 0, 262, 524 and 786, and where
+/// its pages stand.
+fn full_page() -> (Vec<u8>, [Range<usize>; 2]) {
     let long = |key, count: u8| {
         let mut entry = vec![count, 0, 0, 0, 0, 7, key];
         entry.resize(7 + usize::from(count), key);
@@ -363,45 +362,49 @@ fn every_byte() {
     };
     let contents = [long(3, 255), long(5, 255), long(7, 255), long(9, 231)].concat();
     let encodings = [encoding(0x20, 1), encoding(9, PADDING), encoding(0xe0, 0)].concat();
-    let good = small(b"n\0z\0", pages(&[&contents]), pages(&[&encodings]));
+    let file = small(b"n\0z\0", pages(&[&contents]), pages(&[&encodings]));
     let content_page = HEADER + 4 + 17..HEADER + 4 + 17 + 1024;
     let encoding_page = content_page.end + 17..content_page.end + 17 + 1024;
+    (file, [content_page, encoding_page])
+}
 
+/// All calls on a file.
+#[track_caller]
+fn compare_calls(file: &[u8], tally: &mut Tally) {
+    tally.add(&compare_check(file));
+    let _ = [5, 9].map(|key| compare_content(file, &[key]));
+    let _ = [0, 0xe0].map(|key| compare_encoding(file, &[key]));
+    let _ = compare_spec(file, 1);
+}
+
+/// Each start of a small file, and each byte of it with other values: all of them in the first
+/// bytes of entries and in what is no page. Pages also with the right hash.
+#[test]
+fn every_byte() {
+    let (good, pages) = full_page();
     let mut tally = Tally::new("files");
-    let mut compare = |file: &[u8]| {
-        tally.add(&compare_check(file));
-        for key in [5, 9] {
-            let _ = compare_content(file, &[key]);
-        }
-        for key in [0, 0xe0] {
-            let _ = compare_encoding(file, &[key]);
-        }
-        let _ = compare_spec(file, 1);
-    };
     for length in 0..=good.len() {
-        compare(&good[..length]);
+        compare_calls(&good[..length], &mut tally);
     }
     for at in 0..good.len() {
-        let page = [&content_page, &encoding_page]
-            .into_iter()
-            .find(|page| page.contains(&at));
+        let page = pages.iter().find(|page| page.contains(&at));
         let few = page.is_some_and(|page| (at - page.start) % 262 >= 30);
         for value in if few { 0..=2 } else { 0..=u8::MAX } {
             let mut file = good.clone();
             file[at] = value;
-            compare(&file);
+            compare_calls(&file, &mut tally);
             if let Some(page) = page {
                 let hash = second::md5::digest(&file[page.clone()]).unwrap();
                 file[page.start - 16..page.start].copy_from_slice(&hash);
-                compare(&file);
+                compare_calls(&file, &mut tally);
             }
         }
     }
     tally.print(30..=38);
 }
 
-/// Good files and files with random faults of every kind: the full check, lookups of keys that stand
-/// there, of their neighbours and of others, and specs.
+/// Good files and files with random faults of every kind: the full check, lookups of keys that
+/// stand there, of their neighbours and of others, and specs.
 #[test]
 fn hundred_thousand_files() {
     let mut checks = Tally::new("files");

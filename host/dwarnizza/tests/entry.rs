@@ -5,8 +5,8 @@ mod forge;
 mod random;
 
 use compare::{Tally, compare_outputs, in_library_settings, in_library_terms, room};
-use dwarnizza::index::{IndexEntry, Page, Slot, put_entry, unchecked_entry};
-use dwarnizza::{Refusal, refusal};
+use dwarnizza::index::{IndexEntry, Page, Slot, entry_bytes_into};
+use dwarnizza::{Index, Reason, Refusal};
 use forge::{IndexFile, all_settings, for_spoilt_files, keys, random_list};
 use random::Random;
 use second::index::Settings;
@@ -21,13 +21,14 @@ fn second_entry(file: &[u8], number: u64) -> Result<Option<IndexEntry<'_>>, Refu
         offset: entry.offset,
         page: Page(entry.page as u32),
         slot: Slot(entry.slot as u32),
+        place: entry.key.as_ptr().addr() - file.as_ptr().addr(),
     }))
 }
 
 /// The entry by both programs.
 #[track_caller]
 fn compare_entry(file: &[u8], number: u64) -> Result<Option<IndexEntry<'_>>, Refusal> {
-    let entry = unchecked_entry(file, number);
+    let entry = Index::unchecked(file).entry(number);
     assert_eq!(entry, second_entry(file, number));
     entry
 }
@@ -56,7 +57,7 @@ fn compare_put(settings: Settings, parts: &Parts, room: usize) -> Result<Vec<u8>
         room,
         |output| {
             let settings = in_library_settings(settings);
-            put_entry(settings, key, size, archive, offset, output)
+            entry_bytes_into(settings, key, size, archive, offset, output)
         },
         |output| {
             second::index::put_entry(settings, key, size, archive, offset, output)
@@ -194,7 +195,7 @@ fn the_highest_locations() {
         };
         for parts in [archive_high, offset_high] {
             let refused = compare_put(settings, &parts, 100).unwrap_err();
-            assert_eq!(refused.number, refusal::SETTINGS);
+            assert_eq!(refused.reason, Reason::Settings);
         }
     }
 }

@@ -2,10 +2,11 @@
 
 mod compare;
 mod random;
+mod raw;
 
 use compare::{Context, Tally, compare_outputs, in_library_terms, refusal_at, room};
-use dwarnizza::envelope::{content_length, envelope_key, open};
-use dwarnizza::{Refusal, refusal};
+use dwarnizza::envelope::CheckedEnvelope;
+use dwarnizza::{Envelope, Reason, Refusal};
 use random::Random;
 use second::envelope::{with_table, without_table};
 
@@ -19,13 +20,13 @@ const ROW: usize = 24;
 #[track_caller]
 fn compare(file: &[u8], key: &[u8], room: usize) -> Result<Vec<u8>, Refusal> {
     assert_eq!(
-        content_length(file, key),
+        Envelope::check(file, key).map(CheckedEnvelope::content_len),
         second::envelope::content_length(file, key).map_err(in_library_terms)
     );
-    assert_eq!(envelope_key(file), second_key(file));
+    assert_eq!(Envelope::key_of(file), second_key(file));
     compare_outputs(
         room,
-        |output| open(file, key, output),
+        |output| raw::open(file, key, output),
         |output| second::envelope::open_into(file, key, output).map_err(in_library_terms),
     )
 }
@@ -50,17 +51,17 @@ fn expect_content(file: &[u8], content: &[u8]) {
     if length > 0 {
         for room in [0, length - 1] {
             let short = compare(file, &key, room);
-            assert_eq!(short, Err(refusal_at(refusal::CONTENT_OUTPUT_SHORT, 0)));
+            assert_eq!(short, Err(refusal_at(Reason::ContentOutputShort, 0)));
         }
     }
 }
 
 /// Both programs refuse the file, given its key, whatever the room.
 #[track_caller]
-fn expect_refused(file: &[u8], number: u32, place: usize) {
+fn expect_refused(file: &[u8], reason: Reason, place: usize) {
     for room in [0, file.len()] {
         let answer = compare(file, &key_of(file), room);
-        assert_eq!(answer, Err(refusal_at(number, place)));
+        assert_eq!(answer, Err(refusal_at(reason, place)));
     }
 }
 
@@ -137,7 +138,7 @@ fn seventy_thousand_chunks() {
         .collect();
     expect_content(&with_table(&chunks), &contents(&chunks));
     chunks[69_999][0] = b'Z';
-    expect_refused(&with_table(&chunks), refusal::CHUNK_MODE, 69_999);
+    expect_refused(&with_table(&chunks), Reason::ChunkMode, 69_999);
 }
 
 /// Encoded sizes that add up to the rest only modulo 2^32.
@@ -148,25 +149,21 @@ fn sizes_do_not_wrap() {
     for (first, second) in [(u32::MAX, 9), (9, u32::MAX), (1 << 31, (1 << 31) + 8)] {
         put(&mut file, BEFORE_ROWS, first);
         put(&mut file, BEFORE_ROWS + ROW, second);
-        expect_refused(&file, refusal::CHUNK_SIZES, 0);
+        expect_refused(&file, Reason::ChunkSizes, 0);
     }
 }
 
 /// Of faults in two chunks, the one in the earlier chunk is told, whatever their numbers.
 #[test]
 fn chunk_by_chunk() {
-    let faults = [
-        refusal::CHUNK_HASH,
-        refusal::CHUNK_MODE,
-        refusal::DECODED_SIZE,
-    ];
+    let faults = [Reason::ChunkHash, Reason::ChunkMode, Reason::DecodedSize];
     for count in 1..=5 {
         for (first, second) in (0..count).flat_map(|i| (i..count).map(move |j| (i, j))) {
             for early in faults {
                 for late in faults {
                     let mut chunks = vec![plain(b"content"); count];
                     for (chunk, fault) in [(first, early), (second, late)] {
-                        if fault == refusal::CHUNK_MODE {
+                        if fault == Reason::ChunkMode {
                             chunks[chunk][0] = b'Z';
                         }
                     }
@@ -174,14 +171,14 @@ fn chunk_by_chunk() {
                     for (chunk, fault) in [(first, early), (second, late)] {
                         let row = BEFORE_ROWS + ROW * chunk;
                         match fault {
-                            refusal::CHUNK_HASH => file[row + 23] = !file[row + 23],
-                            refusal::DECODED_SIZE => put(&mut file, row + 4, 8),
+                            Reason::ChunkHash => file[row + 23] = !file[row + 23],
+                            Reason::DecodedSize => put(&mut file, row + 4, 8),
                             _ => (),
                         }
                     }
                     let told = match first == second {
                         // Twice the same byte turned is a hash that is right again.
-                        true if early == late && early == refusal::CHUNK_HASH => continue,
+                        true if early == late && early == Reason::ChunkHash => continue,
                         true => early.min(late),
                         false => early,
                     };
@@ -200,7 +197,7 @@ fn keys() {
     for file in [with_table(&chunks), without_table(&chunks[0])] {
         let key = key_of(&file);
         let long = [key, key, key].concat();
-        let wrong = Err(refusal_at(refusal::ENVELOPE_KEY, 0));
+        let wrong = Err(refusal_at(Reason::EnvelopeKey, 0));
         for length in (0..=48).filter(|&length| length != 16) {
             assert_eq!(compare(&file, &long[..length], file.len()), wrong);
         }
@@ -259,7 +256,7 @@ fn sixty_thousand_inputs() {
             context.kind = spoil(&mut random, &mut file);
         }
         let key = any_key(&mut random, &file, &good);
-        let length = content_length(&file, &key).unwrap_or(file.len());
+        let length = Envelope::check(&file, &key).map_or(file.len(), |good| good.content_len());
         let answer = compare(&file, &key, room(&mut random, length));
         content_lengths += answer.as_ref().map_or(0, Vec::len);
         tally.add(&answer);
@@ -315,11 +312,29 @@ fn any_key(random: &mut Random, file: &[u8], good: &[u8]) -> Vec<u8> {
 
 /// Spoils a file in one way, and says in which.
 fn spoil(random: &mut Random, file: &mut Vec<u8>) -> &'static str {
-    let Some((chunk, at, size)) = any_chunk(random, file) else {
-        return spoil_anywhere(random, file);
-    };
+    match any_chunk(random, file) {
+        Some(chunk) if random.up_to(9) < 7 => {
+            let kind = spoil_chunk(random, file, chunk);
+            if random.up_to(1) == 0 {
+                let (number, at, _) = chunk;
+                repair_hash(file, number, at);
+            }
+            kind
+        }
+        _ if file.len() < BEFORE_ROWS => random_bytes(random, file),
+        _ if random.up_to(1) == 0 => spoil_header(random, file),
+        _ => spoil_anywhere(random, file),
+    }
+}
+
+/// Spoils a chunk, or its row in the table: its number, where it stands, and its encoded size.
+fn spoil_chunk(
+    random: &mut Random,
+    file: &mut Vec<u8>,
+    (chunk, at, size): (usize, usize, usize),
+) -> &'static str {
     let row = BEFORE_ROWS + ROW * chunk;
-    let kind = match random.up_to(9) {
+    match random.up_to(6) {
         0 => {
             put(file, row, near(random, size));
             "encoded size"
@@ -346,40 +361,38 @@ fn spoil(random: &mut Random, file: &mut Vec<u8>) -> &'static str {
             put(file, row, 0);
             "empty chunk"
         }
-        6 => {
-            // The chunk loses or gains a byte at its end, and its encoded size says so.
-            if size > 1 && random.up_to(1) == 0 {
-                file.remove(at + size - 1);
-                put(file, row, size as u32 - 1);
-            } else {
-                file.insert(at + size, random.word() as u8);
-                put(file, row, size as u32 + 1);
-            }
-            "chunk length"
-        }
-        _ => return spoil_anywhere(random, file),
-    };
-    if random.up_to(1) == 0 {
-        repair_hash(file, chunk, at);
+        _ => other_chunk_length(random, file, row, at + size),
     }
-    kind
 }
 
-/// Spoils a file by what needs no chunk table.
-fn spoil_anywhere(random: &mut Random, file: &mut Vec<u8>) -> &'static str {
-    if file.len() < BEFORE_ROWS {
-        let length = random.up_to(200);
-        *file = random.bytes(length);
-        return "random bytes";
+/// The chunk of this row, which ends here, loses or gains a byte at its end, and its encoded size
+/// says so.
+fn other_chunk_length(
+    random: &mut Random,
+    file: &mut Vec<u8>,
+    row: usize,
+    end: usize,
+) -> &'static str {
+    let size = word(file, row) as u32;
+    if size > 1 && random.up_to(1) == 0 {
+        file.remove(end - 1);
+        put(file, row, size - 1);
+    } else {
+        file.insert(end, random.word() as u8);
+        put(file, row, size + 1);
     }
-    match random.up_to(8) {
+    "chunk length"
+}
+
+/// Spoils what stands before the rows of a chunk table.
+fn spoil_header(random: &mut Random, file: &mut [u8]) -> &'static str {
+    match random.up_to(4) {
         0 => {
             file[random.up_to(3)] ^= 1 << random.up_to(7);
             "magic"
         }
         1 => {
-            let size = u32::from_be_bytes([file[4], file[5], file[6], file[7]]);
-            put(file, 4, near(random, size as usize));
+            put(file, 4, near(random, word(file, 4)));
             "header size"
         }
         2 => {
@@ -390,36 +403,45 @@ fn spoil_anywhere(random: &mut Random, file: &mut Vec<u8>) -> &'static str {
             file[9 + random.up_to(2)] = random.up_to(5) as u8;
             "count"
         }
-        4 => {
+        _ => {
             // Count and header size agree, and the file may be too short or have rows for chunks.
             let count = random.up_to(6) as u32;
             put(file, 8, 0x0f00_0000 | count);
             put(file, 4, BEFORE_ROWS as u32 + ROW as u32 * count);
             "another count and its header size"
         }
-        5 => {
+    }
+}
+
+/// Spoils a file by what needs no header.
+fn spoil_anywhere(random: &mut Random, file: &mut Vec<u8>) -> &'static str {
+    match random.up_to(3) {
+        0 => {
             file.truncate(random.up_to(file.len()));
             "cut"
         }
-        6 => {
+        1 => {
             let more = 1 + random.up_to(30);
             file.extend(random.bytes(more));
             "longer"
         }
-        7 => {
-            let length = random.up_to(200);
-            *file = random.bytes(length);
-            if random.up_to(1) == 0 {
-                file.splice(..length.min(4), *b"BLTE");
-            }
-            "random bytes"
-        }
+        2 => random_bytes(random, file),
         _ => {
             let at = random.up_to(file.len() - 1);
             file[at] = random.word() as u8;
             "a byte"
         }
     }
+}
+
+/// Another file, which may begin as an envelope does.
+fn random_bytes(random: &mut Random, file: &mut Vec<u8>) -> &'static str {
+    let length = random.up_to(200);
+    *file = random.bytes(length);
+    if random.up_to(1) == 0 {
+        file.splice(..length.min(4), *b"BLTE");
+    }
+    "random bytes"
 }
 
 /// A number beside this one, a small one, or any.

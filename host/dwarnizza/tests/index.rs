@@ -3,10 +3,11 @@
 mod compare;
 mod forge;
 mod random;
+mod raw;
 
 use compare::{Tally, compare_outputs, in_library_settings, in_library_terms, refusal_at, room};
-use dwarnizza::index::Summary;
-use dwarnizza::{Refusal, refusal};
+use dwarnizza::index::{CheckedIndex, Summary};
+use dwarnizza::{Index, Reason, Refusal};
 use forge::{
     COUNT, FOOTER_HASH, Fault, HASH_LENGTH, IndexFile, VERSION, all_settings, counted_list, flip,
     for_spoilt_files, keys, neighbour_lists, random_list, settings,
@@ -17,8 +18,13 @@ use second::index::{FOOTER, MOST_ENTRIES, PAGE};
 /// What the full check gives.
 type Answer = Result<Summary, Refusal>;
 
-fn refused(number: u32, place: usize) -> Answer {
-    Err(refusal_at(number, place))
+fn refused(reason: Reason, place: usize) -> Answer {
+    Err(refusal_at(reason, place))
+}
+
+/// The full check by the library.
+fn check(file: &[u8]) -> Answer {
+    Index::check(file).map(CheckedIndex::summary)
 }
 
 /// The full check by the second program.
@@ -51,7 +57,7 @@ fn list_len(file: &[u8]) -> Option<usize> {
 fn compare_list(file: &[u8], room: usize) -> Result<Vec<u8>, Refusal> {
     compare_outputs(
         room,
-        |output| dwarnizza::index::list(file, output),
+        |output| raw::list(file, output),
         |output| second::index::list(file, output).map_err(in_library_terms),
     )
 }
@@ -60,21 +66,18 @@ fn compare_list(file: &[u8], room: usize) -> Result<Vec<u8>, Refusal> {
 #[track_caller]
 fn expect(file: &[u8], answer: Answer) {
     assert_eq!(second_check(file), answer);
-    assert_eq!(dwarnizza::index::check(file), answer);
-    assert_eq!(
-        dwarnizza::index::unchecked_summary(file),
-        second_summary(file)
-    );
+    assert_eq!(check(file), answer);
+    assert_eq!(Index::unchecked(file).summary(), second_summary(file));
     let length = list_len(file).unwrap_or(100);
     for room in [length.saturating_sub(1), length, length + 1, length + 1000] {
         let expected = match answer {
-            Ok(_) if room < length => Err(refusal::OUTPUT_SHORT),
+            Ok(_) if room < length => Err(Reason::OutputShort),
             Ok(_) => Ok(length),
-            Err(refusal) => Err(refusal.number),
+            Err(refusal) => Err(refusal.reason),
         };
         let listed = compare_list(file, room);
         let listed = listed.map(|list| list.len());
-        assert_eq!(listed.map_err(|refusal| refusal.number), expected);
+        assert_eq!(listed.map_err(|refusal| refusal.reason), expected);
     }
 }
 
@@ -90,8 +93,8 @@ fn expect_good(file: &IndexFile) {
 }
 
 #[track_caller]
-fn expect_refused(file: &[u8], number: u32, place: usize) {
-    expect(file, refused(number, place));
+fn expect_refused(file: &[u8], reason: Reason, place: usize) {
+    expect(file, refused(reason, place));
 }
 
 #[test]
@@ -125,7 +128,7 @@ fn all_keys_of_one_byte_and_more() {
         }
         for entries in [257, full - 1, full, full + 1] {
             let file = IndexFile::new(settings, &counted_list(settings, entries));
-            expect_refused(&file.bytes, refusal::INDEX_ORDER, 256);
+            expect_refused(&file.bytes, Reason::IndexOrder, 256);
         }
     }
 }
@@ -153,8 +156,8 @@ fn the_zero_key_is_a_key() {
         };
         expect_good(&file(&[0]));
         expect_good(&file(&[0, 1, 2]));
-        expect_refused(&file(&[0, 0]).bytes, refusal::INDEX_ORDER, 1);
-        expect_refused(&file(&[1, 2, 0]).bytes, refusal::INDEX_ORDER, 2);
+        expect_refused(&file(&[0, 0]).bytes, Reason::IndexOrder, 1);
+        expect_refused(&file(&[1, 2, 0]).bytes, Reason::IndexOrder, 2);
     }
 }
 
@@ -178,14 +181,14 @@ fn footer_fields() {
                 };
                 file.fix_footer_hash();
                 let answer = second_check(&file.bytes);
-                assert_eq!(answer == refused(refusal::FOOTER_FIELD, 0), !allowed);
+                assert_eq!(answer == refused(Reason::FooterField, 0), !allowed);
                 expect(&file.bytes, answer);
 
                 flip(&mut random, &mut file.footer()[FOOTER_HASH]);
                 let number = if allowed {
-                    refusal::FOOTER_HASH
+                    Reason::FooterHash
                 } else {
-                    refusal::FOOTER_FIELD
+                    Reason::FooterField
                 };
                 expect_refused(&file.bytes, number, 0);
             }
@@ -205,7 +208,7 @@ fn the_footer_hash() {
                 // The contents hash is not judged.
                 expect_good(&file);
             } else if COUNT.contains(&place) || FOOTER_HASH.contains(&place) {
-                expect_refused(&file.bytes, refusal::FOOTER_HASH, 0);
+                expect_refused(&file.bytes, Reason::FooterHash, 0);
             }
         }
     }
@@ -219,7 +222,7 @@ fn the_entry_count_is_little_endian() {
     expect_good(&file);
     file.footer()[COUNT].reverse();
     file.fix_footer_hash();
-    expect_refused(&file.bytes, refusal::ENTRY_COUNT, 0);
+    expect_refused(&file.bytes, Reason::EntryCount, 0);
 }
 
 #[test]
@@ -227,21 +230,21 @@ fn the_limit_of_entries() {
     let most = MOST_ENTRIES as u32;
     let mut empty = IndexFile::new(settings(1, 4), &[]);
     for (count, number) in [
-        (most - 1, refusal::INDEX_LENGTH),
-        (most, refusal::INDEX_LENGTH),
-        (most + 1, refusal::ENTRY_COUNT),
-        (u32::MAX, refusal::ENTRY_COUNT),
+        (most - 1, Reason::IndexLength),
+        (most, Reason::IndexLength),
+        (most + 1, Reason::EntryCount),
+        (u32::MAX, Reason::EntryCount),
     ] {
         empty.set_count(count);
         expect_refused(&empty.bytes, number, 0);
         flip(&mut Random::new(), &mut empty.footer()[FOOTER_HASH]);
-        expect_refused(&empty.bytes, refusal::FOOTER_HASH, 0);
+        expect_refused(&empty.bytes, Reason::FooterHash, 0);
     }
 
     // With the right length: zeros, and a footer.
     for (entries, number) in [
-        (MOST_ENTRIES, refusal::INDEX_PAGE_HASH),
-        (MOST_ENTRIES + 1, refusal::ENTRY_COUNT),
+        (MOST_ENTRIES, Reason::IndexPageHash),
+        (MOST_ENTRIES + 1, Reason::EntryCount),
     ] {
         empty.set_count(entries as u32);
         let mut bytes = vec![0; empty.settings.file_len(entries)];
@@ -258,14 +261,14 @@ fn every_cut() {
     let good = IndexFile::random(&mut random, settings(16, 4), 171).bytes;
     for length in 0..good.len() {
         let (start, end) = (&good[..length], &good[good.len() - length..]);
-        assert_eq!(dwarnizza::index::check(start), second_check(start));
-        assert_eq!(dwarnizza::index::check(end), second_check(end));
+        assert_eq!(check(start), second_check(start));
+        assert_eq!(check(end), second_check(end));
         if length < FOOTER {
-            assert_eq!(second_check(start), refused(refusal::INDEX_SHORT, 0));
-            assert_eq!(second_check(end), refused(refusal::INDEX_SHORT, 0));
+            assert_eq!(second_check(start), refused(Reason::IndexShort, 0));
+            assert_eq!(second_check(end), refused(Reason::IndexShort, 0));
         } else {
             assert!(second_check(start).is_err());
-            assert_eq!(second_check(end), refused(refusal::INDEX_LENGTH, 0));
+            assert_eq!(second_check(end), refused(Reason::IndexLength, 0));
         }
     }
 }
@@ -280,16 +283,16 @@ fn lengths_beside_the_right_one() {
         for length in [1, 16, 28, PAGE, PAGE + 16 + 8] {
             let zeros = vec![0; length];
             let file = [contents, &zeros, footer].concat();
-            expect_refused(&file, refusal::INDEX_LENGTH, 0);
+            expect_refused(&file, Reason::IndexLength, 0);
             let file = [&zeros, contents, footer].concat();
-            expect_refused(&file, refusal::INDEX_LENGTH, 0);
+            expect_refused(&file, Reason::IndexLength, 0);
             if let Some(rest) = contents.len().checked_sub(length) {
                 let file = [&contents[..rest], footer].concat();
-                expect_refused(&file, refusal::INDEX_LENGTH, 0);
+                expect_refused(&file, Reason::IndexLength, 0);
             }
             // At the end, the footer is no longer the last.
             let file = [contents, footer, &zeros].concat();
-            expect_refused(&file, refusal::FOOTER_FIELD, 0);
+            expect_refused(&file, Reason::FooterField, 0);
         }
     }
 }
@@ -305,9 +308,9 @@ fn another_count_on_the_same_pages() {
         file.fix_page_hash(1);
         file.fix_last_key(1);
         file.set_count(full as u32 + 1);
-        expect_refused(&file.bytes, refusal::INDEX_PADDING, 1);
+        expect_refused(&file.bytes, Reason::IndexPadding, 1);
         file.set_count(full as u32 + 3);
-        expect_refused(&file.bytes, refusal::INDEX_ORDER, full + 2);
+        expect_refused(&file.bytes, Reason::IndexOrder, full + 2);
     }
 }
 
@@ -317,20 +320,20 @@ fn the_order_before_the_pages() {
     let mut random = Random::new();
     let mut file = IndexFile::random(&mut random, settings(16, 4), 171);
     file.put_faults(&mut random, &[Fault::PageHash(0), Fault::LastKey(0)]);
-    expect_refused(&file.bytes, refusal::INDEX_PAGE_HASH, 0);
+    expect_refused(&file.bytes, Reason::IndexPageHash, 0);
 
     // The length now, with the page hash behind it.
     file.set_count(341);
-    expect_refused(&file.bytes, refusal::INDEX_LENGTH, 0);
+    expect_refused(&file.bytes, Reason::IndexLength, 0);
     file.set_count(8_388_609);
-    expect_refused(&file.bytes, refusal::ENTRY_COUNT, 0);
+    expect_refused(&file.bytes, Reason::EntryCount, 0);
     flip(&mut random, &mut file.footer()[FOOTER_HASH]);
-    expect_refused(&file.bytes, refusal::FOOTER_HASH, 0);
+    expect_refused(&file.bytes, Reason::FooterHash, 0);
     file.footer()[HASH_LENGTH] = 16;
-    expect_refused(&file.bytes, refusal::FOOTER_FIELD, 0);
+    expect_refused(&file.bytes, Reason::FooterField, 0);
     let start = file.bytes.len() - FOOTER;
-    expect_refused(&file.bytes[start..], refusal::FOOTER_FIELD, 0);
-    expect_refused(&file.bytes[start + 1..], refusal::INDEX_SHORT, 0);
+    expect_refused(&file.bytes[start..], Reason::FooterField, 0);
+    expect_refused(&file.bytes[start + 1..], Reason::IndexShort, 0);
 }
 
 /// Each fault of a page or an entry alone and with each other, on three pages.
@@ -363,7 +366,7 @@ fn the_order_in_the_pages() {
                     .into_iter()
                     .min_by_key(|&fault| turn(&good, fault))
                     .expect("there are two");
-                let (number, place) = number_and_place(first);
+                let (number, place) = reason_and_place(first);
                 expect_refused(&file.bytes, number, place);
             }
         }
@@ -371,22 +374,22 @@ fn the_order_in_the_pages() {
 }
 
 /// The number and place that a fault is refused with.
-fn number_and_place(fault: Fault) -> (u32, usize) {
+fn reason_and_place(fault: Fault) -> (Reason, usize) {
     match fault {
-        Fault::PageHash(page) => (refusal::INDEX_PAGE_HASH, page),
-        Fault::Padding(page) => (refusal::INDEX_PADDING, page),
-        Fault::Order(entry) => (refusal::INDEX_ORDER, entry),
-        Fault::LastKey(page) => (refusal::LAST_KEY, page),
+        Fault::PageHash(page) => (Reason::IndexPageHash, page),
+        Fault::Padding(page) => (Reason::IndexPadding, page),
+        Fault::Order(entry) => (Reason::IndexOrder, entry),
+        Fault::LastKey(page) => (Reason::LastKey, page),
     }
 }
 
 /// When a fault has its turn: by page, then by number, then by entry.
-fn turn(file: &IndexFile, fault: Fault) -> (usize, u32, usize) {
-    let (number, place) = number_and_place(fault);
+fn turn(file: &IndexFile, fault: Fault) -> (usize, Reason, usize) {
+    let (reason, place) = reason_and_place(fault);
     match fault {
-        Fault::Order(entry) => (file.page_of(entry), number, entry),
+        Fault::Order(entry) => (file.page_of(entry), reason, entry),
         Fault::PageHash(page) | Fault::Padding(page) | Fault::LastKey(page) => {
-            (page, number, place)
+            (page, reason, place)
         }
     }
 }
@@ -402,19 +405,19 @@ fn each_byte_counts() {
         for place in 0..8 {
             let mut file = good.clone();
             file.page_hash(page)[place] ^= 1 << random.up_to(7);
-            expect_refused(&file.bytes, refusal::INDEX_PAGE_HASH, page);
+            expect_refused(&file.bytes, Reason::IndexPageHash, page);
         }
         for place in 0..settings.key_len() {
             let mut file = good.clone();
             file.last_key(page)[place] ^= 1 << random.up_to(7);
-            expect_refused(&file.bytes, refusal::LAST_KEY, page);
+            expect_refused(&file.bytes, Reason::LastKey, page);
         }
         for place in 0..good.clone().padding(page).len() {
             let mut file = good.clone();
             file.padding(page)[place] ^= 1 << random.up_to(7);
-            expect_refused(&file.bytes, refusal::INDEX_PAGE_HASH, page);
+            expect_refused(&file.bytes, Reason::IndexPageHash, page);
             file.fix_page_hash(page);
-            expect_refused(&file.bytes, refusal::INDEX_PADDING, page);
+            expect_refused(&file.bytes, Reason::IndexPadding, page);
         }
     }
 }
@@ -430,7 +433,7 @@ fn keys_are_compared_whole_and_unsigned() {
             let (one, other) = list.split_at_mut(settings.entry_len());
             one.swap_with_slice(other);
             let falling = IndexFile::new(settings, &list);
-            expect_refused(&falling.bytes, refusal::INDEX_ORDER, 1);
+            expect_refused(&falling.bytes, Reason::IndexOrder, 1);
         }
         // Equal keys with other sizes and locations, on one page and across two.
         for equal in [1, full - 1, full] {
@@ -442,7 +445,7 @@ fn keys_are_compared_whole_and_unsigned() {
                 file.fix_page_hash(page);
             }
             let first = equal.min(keys(settings));
-            expect_refused(&file.bytes, refusal::INDEX_ORDER, first);
+            expect_refused(&file.bytes, Reason::IndexOrder, first);
         }
     }
 }
@@ -450,18 +453,15 @@ fn keys_are_compared_whole_and_unsigned() {
 /// Holds the two programs against each other on one file.
 fn compare(tally: &mut Tally, random: &mut Random, file: &[u8]) {
     let answer = second_check(file);
-    assert_eq!(dwarnizza::index::check(file), answer);
-    assert_eq!(
-        dwarnizza::index::unchecked_summary(file),
-        second_summary(file)
-    );
+    assert_eq!(check(file), answer);
+    assert_eq!(Index::unchecked(file).summary(), second_summary(file));
     tally.add(&answer);
     let room = match list_len(file) {
         Some(length) => room(random, length),
         None => random.up_to(5000),
     };
     if compare_list(file, room).is_err() && answer.is_ok() {
-        tally.add_refusal(refusal::OUTPUT_SHORT);
+        tally.add_refusal(Reason::OutputShort);
     }
 }
 

@@ -4,7 +4,7 @@ mod compare;
 mod random;
 
 use compare::{Tally, in_library_terms, refusal_at};
-use dwarnizza::{Key, Refusal, refusal};
+use dwarnizza::{Key, Reason, Refusal};
 use random::Random;
 
 /// The key of a text by the library, after seeing that the second program gives the same.
@@ -17,14 +17,14 @@ fn compare(text: &[u8], key_length: u8) -> Result<Vec<u8>, Refusal> {
     answer
 }
 
-fn refused(number: u32, place: usize) -> Result<Vec<u8>, Refusal> {
-    Err(refusal_at(number, place))
+fn refused(reason: Reason, place: usize) -> Result<Vec<u8>, Refusal> {
+    Err(refusal_at(reason, place))
 }
 
 #[test]
 fn m9() {
     assert_eq!(compare(b"00", 1), Ok(vec![0]));
-    assert_eq!(compare(b"0", 1), refused(refusal::KEY_TEXT_LENGTH, 0));
+    assert_eq!(compare(b"0", 1), refused(Reason::KeyTextLength, 0));
 }
 
 /// 00417 is the text of no key, nor is 417; 0417 is one of two bytes.
@@ -35,7 +35,7 @@ fn a_short_key_is_not_padded() {
             let expected = match (text, key_length) {
                 (b"0417", 2) => Ok(vec![4, 0x17]),
                 (b"000417", 3) => Ok(vec![0, 4, 0x17]),
-                _ => refused(refusal::KEY_TEXT_LENGTH, 0),
+                _ => refused(Reason::KeyTextLength, 0),
             };
             assert_eq!(compare(text, key_length), expected);
         }
@@ -59,7 +59,7 @@ fn nothing_but_digits() {
         ("4é1".as_bytes(), 1),
         ("１7".as_bytes(), 0),
     ] {
-        assert_eq!(compare(text, 2), refused(refusal::HEX_DIGIT, place));
+        assert_eq!(compare(text, 2), refused(Reason::HexDigit, place));
     }
 }
 
@@ -86,7 +86,7 @@ fn every_character_at_every_place() {
                 text[place] = character;
                 let answer = compare(&text, key_length);
                 if !character.is_ascii_hexdigit() {
-                    assert_eq!(answer, refused(refusal::HEX_DIGIT, place));
+                    assert_eq!(answer, refused(Reason::HexDigit, place));
                 }
                 tally.add(&answer);
             }
@@ -105,19 +105,19 @@ fn every_length() {
             let text = digits(&mut random, length);
             let answer = compare(&text, key_length);
             let expected = if !(1..=16).contains(&key_length) {
-                Some(refusal::SETTINGS)
+                Some(Reason::Settings)
             } else if length != 2 * usize::from(key_length) {
-                Some(refusal::KEY_TEXT_LENGTH)
+                Some(Reason::KeyTextLength)
             } else {
                 None
             };
             tally.add(&answer);
-            assert_eq!(answer.err().map(|refusal| refusal.number), expected);
+            assert_eq!(answer.err().map(|refusal| refusal.reason), expected);
             if expected.is_some() {
                 let bad = vec![b'g'; length];
                 let answer = compare(&bad, key_length);
                 tally.add(&answer);
-                assert_eq!(answer.err().map(|refusal| refusal.number), expected);
+                assert_eq!(answer.err().map(|refusal| refusal.reason), expected);
             }
         }
     }

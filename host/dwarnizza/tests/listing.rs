@@ -7,9 +7,8 @@ mod random;
 use std::fs;
 use std::path::Path;
 
-use compare::{Tally, compare_outputs, in_library_terms, refusal_at, room};
-use dwarnizza::index::{listing, listing_text};
-use dwarnizza::{Refusal, refusal};
+use compare::{Tally, compare_outputs, in_library_terms, reason, refusal_at, room};
+use dwarnizza::{Index, Reason, Refusal};
 use forge::{IndexFile, all_settings, counted_list, for_spoilt_files, keys, random_list, settings};
 use random::Random;
 use second::index::{FOOTER, MOST_LISTED, PAGE, Settings};
@@ -33,7 +32,7 @@ fn compare(input: &[u8], listed: &Listing, room: usize) -> Result<Vec<u8>, Unwri
     };
     compare_outputs(
         room,
-        |output| fitting(listing(input, output)),
+        |output| fitting(Index::listing_into(input, output)),
         |output| {
             let length = fitting(listed.as_ref().map(String::len).map_err(|&r| r))?;
             let text = listed.as_ref().expect("a text fits");
@@ -62,7 +61,7 @@ fn expect(input: &[u8], listed: Listing) {
         let written = compare(input, &listed, room);
         assert_eq!(written.is_ok(), listed.is_ok() && length <= room);
     }
-    assert!(listing_text(input) == listed, "another answer is given");
+    assert!(Index::listing(input) == listed, "another answer is given");
 }
 
 /// Both programs give this text.
@@ -73,8 +72,8 @@ fn expect_text(input: &[u8], text: &str) {
 
 /// Both programs refuse the input.
 #[track_caller]
-fn expect_refused(input: &[u8], number: u32, place: usize) {
-    expect(input, Err(refusal_at(number, place)));
+fn expect_refused(input: &[u8], reason: Reason, place: usize) {
+    expect(input, Err(refusal_at(reason, place)));
 }
 
 #[test]
@@ -196,8 +195,8 @@ fn the_limit_of_the_input() {
     let footer = good(0);
     for length in [MOST_LISTED - 1, MOST_LISTED, MOST_LISTED + 1, 1 << 20] {
         let numbers = match length > MOST_LISTED {
-            true => [refusal::LISTING_INPUT; 2],
-            false => [refusal::INDEX_LENGTH, refusal::FOOTER_FIELD],
+            true => [Reason::ListingInput; 2],
+            false => [Reason::IndexLength, Reason::FooterField],
         };
         for filling in [vec![0; length], random.bytes(length)] {
             let ended = [&filling[..length - FOOTER], &footer].concat();
@@ -212,7 +211,7 @@ fn the_limit_of_the_input() {
     let text = text_of(&longest);
     assert_eq!(text.lines().count(), 1 + 15 * full);
     expect_text(&longest, &text);
-    expect_refused(&good(15 * full + 1), refusal::LISTING_INPUT, 0);
+    expect_refused(&good(15 * full + 1), Reason::ListingInput, 0);
 }
 
 /// The longest text of all: the most pages of the settings with the longest lines for their
@@ -261,5 +260,5 @@ fn refused(text: &str) -> Option<Refusal> {
         Some(_at) => words.next()?.parse().expect("a place follows"),
         None => 0,
     };
-    Some(refusal_at(number, place))
+    Some(refusal_at(reason(number), place))
 }

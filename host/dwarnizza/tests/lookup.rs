@@ -7,9 +7,9 @@ mod random;
 
 use std::fmt;
 
-use compare::{Context, in_library_entry, in_library_terms, refusal_at};
-use dwarnizza::index::{Entry, Lookup, Page, Slot, bound, lookup};
-use dwarnizza::{Refusal, refusal};
+use compare::{Context, in_library_entry, in_library_terms, reason, refusal_at};
+use dwarnizza::index::{Entry, Lookup, Page, Slot};
+use dwarnizza::{Reason, Refusal};
 use forge::{
     COUNT, FOOTER_HASH, Fault, HASH_LENGTH, IndexFile, VERSION, all_settings, beside, counted_list,
     flip, keys, neighbour_lists, random_list, settings, spoil,
@@ -25,8 +25,18 @@ fn absent(compared: u32) -> Answer {
 }
 
 /// The refusals of a lookup name no place.
-fn refused(number: u32) -> Refusal {
-    refusal_at(number, 0)
+fn refused(reason: Reason) -> Refusal {
+    refusal_at(reason, 0)
+}
+
+/// The lookup by the library.
+fn lookup(file: &[u8], key: &[u8]) -> Answer {
+    dwarnizza::Index::unchecked(file).find(key)
+}
+
+/// The bound by the library.
+fn bound(file: &[u8]) -> Result<u32, Refusal> {
+    dwarnizza::Index::unchecked(file).bound()
 }
 
 /// The lookup by the second program.
@@ -248,11 +258,11 @@ fn the_bound_is_met() {
 
 /// What the full check refuses the file with; it passes 1 to 5.
 #[track_caller]
-fn fails_with(file: &[u8]) -> u32 {
-    let number = second::index::check(file).expect_err("this fails").number;
-    assert!((6..=9).contains(&number), "refused {number}");
-    assert_eq!(dwarnizza::index::check(file).unwrap_err().number, number);
-    number
+fn fails_with(file: &[u8]) -> Reason {
+    let reason = reason(second::index::check(file).expect_err("this fails").number);
+    assert!(reason > Reason::IndexLength, "refused {reason:?}");
+    assert_eq!(dwarnizza::Index::check(file).unwrap_err().reason, reason);
+    reason
 }
 
 /// The slot of a key that is found, and the count.
@@ -283,7 +293,7 @@ fn six() -> IndexFile {
 fn wrong_last_keys() {
     let mut high = six();
     high.last_key(0)[0] = 90;
-    assert_eq!(fails_with(&high.bytes), refusal::LAST_KEY);
+    assert_eq!(fails_with(&high.bytes), Reason::LastKey);
     // The page is chosen; then slots 3 and 5, and none is left.
     for key in [61, 70, 90] {
         assert_eq!(compare(&high.bytes, &[key]), absent(3));
@@ -294,7 +304,7 @@ fn wrong_last_keys() {
 
     let mut low = six();
     low.last_key(0)[0] = 25;
-    assert_eq!(fails_with(&low.bytes), refusal::LAST_KEY);
+    assert_eq!(fails_with(&low.bytes), Reason::LastKey);
     assert_eq!(slot_and_count(compare(&low.bytes, &[20])), (1, 5));
     for key in [26, 30, 60] {
         assert_eq!(compare(&low.bytes, &[key]), absent(1));
@@ -313,7 +323,7 @@ fn keys_out_of_order() {
     let mut file = six();
     file.key(0)[0] = 35;
     file.fix_page_hash(0);
-    assert_eq!(fails_with(&file.bytes), refusal::INDEX_ORDER);
+    assert_eq!(fails_with(&file.bytes), Reason::IndexOrder);
     // The last key, then slots 3, 1, 2, and 3 once more.
     assert_eq!(compare(&file.bytes, &[35]), absent(5));
     assert_eq!(
@@ -331,7 +341,7 @@ fn keys_out_of_order() {
         equal.key(number)[0] = 20;
     }
     equal.fix_page_hash(0);
-    assert_eq!(fails_with(&equal.bytes), refusal::INDEX_ORDER);
+    assert_eq!(fails_with(&equal.bytes), Reason::IndexOrder);
     // Slots 3, 1 and 0.
     assert_eq!(slot_and_count(compare(&equal.bytes, &[20])), (1, 5));
 }
@@ -344,7 +354,7 @@ fn pages_out_of_order() {
     let (first, rest) = list.split_at(170 * settings.entry_len());
     let (second, third) = rest.split_at(170 * settings.entry_len());
     let file = IndexFile::new(settings, &[second, first, third].concat()).bytes;
-    assert_eq!(fails_with(&file), refusal::INDEX_ORDER);
+    assert_eq!(fails_with(&file), Reason::IndexOrder);
     let number = |number: u128| number.to_be_bytes();
     // Last keys 1 and 0, eight halvings to slot 0, and that once more.
     assert_eq!(compare(&file, &number(5)), absent(11));
@@ -396,7 +406,7 @@ fn what_is_not_looked_at() {
 /// The sought key is never cut and never filled up.
 #[test]
 fn wrong_key_lengths() {
-    let refused = Err(refused(refusal::INDEX_KEY_LENGTH));
+    let refused = Err(refused(Reason::IndexKeyLength));
     for settings in all_settings() {
         let length = settings.key_len();
         for entries in [0, 1, 40] {
@@ -424,32 +434,32 @@ fn wrong_key_lengths() {
 #[test]
 fn the_order_of_refusals() {
     #[track_caller]
-    fn expect(file: &[u8], number: u32) {
+    fn expect(file: &[u8], reason: Reason) {
         for length in [0, 1, 15, 16, 17] {
-            assert_eq!(compare(file, &vec![0; length]), Err(refused(number)));
+            assert_eq!(compare(file, &vec![0; length]), Err(refused(reason)));
         }
-        assert_eq!(compare_bound(file), Err(refused(number)));
+        assert_eq!(compare_bound(file), Err(refused(reason)));
     }
     let mut random = Random::new();
     let mut file = IndexFile::random(&mut random, settings(16, 4), 171);
     assert_eq!(
         compare(&file.bytes, &[0; 15]),
-        Err(refused(refusal::INDEX_KEY_LENGTH))
+        Err(refused(Reason::IndexKeyLength))
     );
     file.set_count(341);
-    expect(&file.bytes, refusal::INDEX_LENGTH);
+    expect(&file.bytes, Reason::IndexLength);
     file.set_count(8_388_608);
-    expect(&file.bytes, refusal::INDEX_LENGTH);
+    expect(&file.bytes, Reason::IndexLength);
     file.set_count(8_388_609);
-    expect(&file.bytes, refusal::ENTRY_COUNT);
+    expect(&file.bytes, Reason::EntryCount);
     flip(&mut random, &mut file.footer()[FOOTER_HASH]);
-    expect(&file.bytes, refusal::FOOTER_HASH);
+    expect(&file.bytes, Reason::FooterHash);
     file.footer()[HASH_LENGTH] = 16;
-    expect(&file.bytes, refusal::FOOTER_FIELD);
+    expect(&file.bytes, Reason::FooterField);
     let start = file.bytes.len() - FOOTER;
-    expect(&file.bytes[start..], refusal::FOOTER_FIELD);
-    expect(&file.bytes[start + 1..], refusal::INDEX_SHORT);
-    expect(&[], refusal::INDEX_SHORT);
+    expect(&file.bytes[start..], Reason::FooterField);
+    expect(&file.bytes[start + 1..], Reason::IndexShort);
+    expect(&[], Reason::IndexShort);
 }
 
 /// All 256 values of each field of the footer and of its count, with the footer hash right and
@@ -493,8 +503,8 @@ fn the_limit_of_entries() {
     // Half of 18,437 and one fewer stays each time: 9218, 4608, 2303, .. 1.
     assert_eq!(compare(&most, &[1]), absent(14));
     let more = file(MOST_ENTRIES + 1);
-    assert_eq!(compare(&more, &[0]), Err(refused(refusal::ENTRY_COUNT)));
-    assert_eq!(compare_bound(&more), Err(refused(refusal::ENTRY_COUNT)));
+    assert_eq!(compare(&more, &[0]), Err(refused(Reason::EntryCount)));
+    assert_eq!(compare_bound(&more), Err(refused(Reason::EntryCount)));
 }
 
 /// How often each answer was given.
@@ -520,7 +530,7 @@ impl Tally {
         let answer = match compare(file, key) {
             Ok(answer) => answer,
             Err(refusal) => {
-                self.refused[refusal.number as usize] += 1;
+                self.refused[refusal.number() as usize] += 1;
                 return;
             }
         };

@@ -1,10 +1,12 @@
 //! MD5 of the library against the second program.
 
+mod compare;
 mod random;
 
 use std::array;
 
-use dwarnizza::{Md5, Refusal, md5, refusal};
+use compare::in_library_terms;
+use dwarnizza::{Md5, Reason, Refusal, md5};
 use random::Random;
 use second::md5::{State, digest, hex};
 use second::md5_suite;
@@ -12,11 +14,7 @@ use second::md5_suite;
 /// The most bytes that a state takes.
 const LIMIT: u64 = 1 << 48;
 
-const LIMIT_PASSED: Refusal = Refusal {
-    number: refusal::HASH_LIMIT,
-    place: 0,
-    link: None,
-};
+const LIMIT_PASSED: Refusal = Refusal::new(Reason::HashLimit, 0);
 
 /// Cuts `data` into random parts, empty ones among them.
 fn random_parts<'a>(random: &mut Random, data: &'a [u8]) -> Vec<&'a [u8]> {
@@ -163,11 +161,7 @@ fn forged_states() {
         for _ in 0..4 {
             let length = random.up_to(200);
             let part = random.bytes(length);
-            let refused = second.update(&part).map_err(|refusal| Refusal {
-                number: refusal.number,
-                place: refusal.place,
-                link: None,
-            });
+            let refused = second.update(&part).map_err(in_library_terms);
             assert_eq!(library.update(&part), refused, "{count} and {length}");
             check_same(&library, &second);
         }

@@ -3,10 +3,11 @@
 mod compare;
 mod forge;
 mod random;
+mod raw;
 
 use compare::{Tally, in_library_terms, refusal_at};
-use dwarnizza::root::{Record, check, find};
-use dwarnizza::{Refusal, refusal};
+use dwarnizza::root::Record;
+use dwarnizza::{Reason, Refusal, Root};
 use forge::for_files_of;
 use forge::root::{Fault, KINDS, NO_NAME_HASHES, RootFile, random_flags, random_masks};
 use random::Random;
@@ -19,7 +20,7 @@ const ALL: u32 = u32::MAX;
 #[track_caller]
 fn compare_check(file: &[u8]) -> Result<(), Refusal> {
     let answer = second::root::check(file).map_err(in_library_terms);
-    assert_eq!(check(file), answer);
+    assert_eq!(Root::check(file).map(|_| ()), answer);
     answer
 }
 
@@ -38,7 +39,11 @@ fn compare_find(
             place: found.place,
         })
     });
-    assert_eq!(find(file, id, locale, unwanted), answer, "the id is {id}");
+    let by_library = raw::find(file, id, locale, unwanted);
+    assert_eq!(by_library, answer, "the id is {id}");
+    if let Ok(root) = Root::check(file) {
+        assert_eq!(Ok(root.find(id, locale, unwanted)), answer);
+    }
     answer
 }
 
@@ -78,10 +83,10 @@ fn headers() -> Vec<Option<Header>> {
     [None].into_iter().chain(with_magic).collect()
 }
 
-/// The records of a block with these deltas, by id and the first byte of their keys, in every layout;
-/// or how it is refused.
+/// The records of a block with these deltas, by id and the first byte of their keys, in every
+/// layout; or how it is refused.
 #[track_caller]
-fn expect_ids(deltas: &[i32], expected: Result<&[(u32, u8)], u32>) {
+fn expect_ids(deltas: &[i32], expected: Result<&[(u32, u8)], Reason>) {
     for header in headers() {
         let file = RootFile::new(header, vec![block(1, 0, 0, deltas)]);
         match expected {
@@ -92,8 +97,8 @@ fn expect_ids(deltas: &[i32], expected: Result<&[(u32, u8)], u32>) {
                     assert_eq!(found.expect("it is there").key, [key; 16]);
                 }
             }
-            Err(number) => {
-                let refused = refusal_at(number, file.place(0));
+            Err(reason) => {
+                let refused = refusal_at(reason, file.place(0));
                 assert_eq!(compare_check(&file.bytes), Err(refused));
                 assert_eq!(compare_find(&file.bytes, 5, 1, 0), Err(refused));
             }
@@ -106,10 +111,10 @@ fn m5_to_m8() {
     let half = i32::MAX as u32;
     expect_ids(&[5, 0, 0], Ok(&[(5, 0), (6, 1), (7, 2)]));
     expect_ids(&[5, -1], Ok(&[(5, 0)]));
-    expect_ids(&[0, -2], Err(refusal::ID_RANGE));
-    expect_ids(&[-1], Err(refusal::ID_RANGE));
+    expect_ids(&[0, -2], Err(Reason::IdRange));
+    expect_ids(&[-1], Err(Reason::IdRange));
     expect_ids(&[i32::MAX, i32::MAX], Ok(&[(half, 0), (u32::MAX, 1)]));
-    expect_ids(&[i32::MAX, i32::MAX, 0], Err(refusal::ID_RANGE));
+    expect_ids(&[i32::MAX, i32::MAX, 0], Err(Reason::IdRange));
     // Ids at both ends, and from one to the other.
     expect_ids(&[i32::MAX, i32::MAX, -1], Ok(&[(u32::MAX, 1)]));
     expect_ids(&[i32::MAX, i32::MIN], Ok(&[(half, 0), (0, 1)]));
@@ -117,9 +122,9 @@ fn m5_to_m8() {
         &[i32::MAX, i32::MAX, i32::MIN, i32::MIN],
         Ok(&[(1 << 31, 2), (1, 3)]),
     );
-    expect_ids(&[i32::MAX - 1, i32::MIN], Err(refusal::ID_RANGE));
-    expect_ids(&[i32::MIN], Err(refusal::ID_RANGE));
-    expect_ids(&[i32::MAX, i32::MAX, i32::MAX], Err(refusal::ID_RANGE));
+    expect_ids(&[i32::MAX - 1, i32::MIN], Err(Reason::IdRange));
+    expect_ids(&[i32::MIN], Err(Reason::IdRange));
+    expect_ids(&[i32::MAX, i32::MAX, i32::MAX], Err(Reason::IdRange));
 }
 
 /// Both magics with all small numbers a and b, over files of all small lengths.
@@ -137,21 +142,21 @@ fn m10_headers() {
                 for length in 0..=file.len() {
                     let answer = compare_check(&file[..length]);
                     tally.add(&answer);
-                    let number = answer.err().map(|refusal| refusal.number);
+                    let reason = answer.err().map(|refusal| refusal.reason);
                     let expected = match length {
                         0 => None,
-                        1..4 => Some(refusal::BLOCK_CUT),
-                        4..12 => Some(refusal::ROOT_HEADER_CUT),
-                        _ if long && b == 4 => Some(refusal::ROOT_VERSION),
-                        _ if long && a < 20 => Some(refusal::ROOT_HEADER_SIZE),
-                        _ if long && length < a as usize => Some(refusal::ROOT_HEADER_CUT),
+                        1..4 => Some(Reason::BlockCut),
+                        4..12 => Some(Reason::RootHeaderCut),
+                        _ if long && b == 4 => Some(Reason::RootVersion),
+                        _ if long && a < 20 => Some(Reason::RootHeaderSize),
+                        _ if long && length < a as usize => Some(Reason::RootHeaderCut),
                         _ => {
                             let start = if long { a as usize } else { 12 };
                             let whole = (length - start).is_multiple_of(17);
-                            (!whole).then_some(refusal::BLOCK_CUT)
+                            (!whole).then_some(Reason::BlockCut)
                         }
                     };
-                    assert_eq!(number, expected, "a = {a}, b = {b}, {length} bytes");
+                    assert_eq!(reason, expected, "a = {a}, b = {b}, {length} bytes");
                 }
             }
         }

@@ -8,8 +8,8 @@ mod random;
 use compare::{
     Context, Tally, compare_outputs, in_library_settings, in_library_terms, refusal_at, room,
 };
-use dwarnizza::index::{Summary, check, list};
-use dwarnizza::{Refusal, refusal};
+use dwarnizza::index::Summary;
+use dwarnizza::{Index, Reason, Refusal};
 use forge::{
     IndexFile, VERSION, all_settings, count_down, counted_list, flip, keys, neighbour_lists,
     random_layout, random_list, settings,
@@ -21,11 +21,11 @@ use second::index::{FOOTER, MOST_ENTRIES, Settings};
 #[track_caller]
 fn compare(settings: Settings, list: &[u8], room: usize) -> Result<Vec<u8>, Refusal> {
     let length = second::index::written_length(settings, list).map_err(in_library_terms);
-    let told = dwarnizza::index::written_length(in_library_settings(settings), list);
+    let told = Index::written_length(in_library_settings(settings), list);
     assert_eq!(told, length);
     compare_outputs(
         room,
-        |output| dwarnizza::index::write(in_library_settings(settings), list, output),
+        |output| Index::write_into(in_library_settings(settings), list, output),
         |output| second::index::write(settings, list, output).map_err(in_library_terms),
     )
 }
@@ -33,9 +33,9 @@ fn compare(settings: Settings, list: &[u8], room: usize) -> Result<Vec<u8>, Refu
 /// The file of a list that may be written, in outputs of all kinds.
 #[track_caller]
 fn written(settings: Settings, list: &[u8]) -> Vec<u8> {
-    let length = dwarnizza::index::written_length(in_library_settings(settings), list)
+    let length = Index::written_length(in_library_settings(settings), list)
         .expect("the list may be written");
-    let short = refusal_at(refusal::OUTPUT_SHORT, 0);
+    let short = refusal_at(Reason::OutputShort, 0);
     assert_eq!(compare(settings, list, length - 1), Err(short));
     let file = compare(settings, list, length).expect("the list may be written");
     assert_eq!(file.len(), length);
@@ -45,21 +45,18 @@ fn written(settings: Settings, list: &[u8]) -> Vec<u8> {
 
 /// Both programs refuse the list so, whatever the output.
 #[track_caller]
-fn expect_refused(settings: Settings, list: &[u8], number: u32, place: usize) {
+fn expect_refused(settings: Settings, list: &[u8], reason: Reason, place: usize) {
     for room in [0, FOOTER, 3 * list.len() + 10_000] {
         let answer = compare(settings, list, room);
-        assert_eq!(answer, Err(refusal_at(number, place)));
+        assert_eq!(answer, Err(refusal_at(reason, place)));
     }
 }
 
 /// The list of a file that passes the full check, and what the full check says of it.
 #[track_caller]
 fn read_back(file: &[u8]) -> (Summary, Vec<u8>) {
-    let summary = check(file).expect("the file is good");
-    let mut output = vec![0; file.len()];
-    let length = list(file, &mut output).expect("the file is good");
-    output.truncate(length);
-    (summary, output)
+    let index = Index::check(file).expect("the file is good");
+    (index.summary(), index.list())
 }
 
 /// What is written is the file of the layout, and gives list and settings back.
@@ -84,9 +81,8 @@ fn round_trip_of_file(random: &mut Random, good: &IndexFile) {
     let mut other = good.clone();
     other.footer()[..VERSION].copy_from_slice(&random.array::<VERSION>());
     let (summary, listed) = read_back(&other.bytes);
-    let mut again = vec![0; other.bytes.len()];
-    let length = dwarnizza::index::write(summary.settings, &listed, &mut again);
-    assert_eq!(length, Ok(again.len()));
+    let again = Index::write(summary.settings, &listed).expect("the list may be written");
+    assert_eq!(again.len(), other.bytes.len());
     let contents_hash = again.len() - FOOTER..again.len() - FOOTER + VERSION;
     assert!(again[..contents_hash.start] == other.bytes[..contents_hash.start]);
     assert!(again[contents_hash.end..] == other.bytes[contents_hash.end..]);
@@ -123,7 +119,7 @@ fn the_zero_key_is_a_key() {
         let list = counted_list(settings, 3);
         round_trip(settings, &list, &written(settings, &list));
         let zeros = vec![0; 3 * settings.entry_len()];
-        expect_refused(settings, &zeros, refusal::INDEX_ORDER, 1);
+        expect_refused(settings, &zeros, Reason::IndexOrder, 1);
     }
 }
 
@@ -143,10 +139,10 @@ fn every_setting() {
         ] {
             if allowed {
                 round_trip(settings, &[], &written(settings, &[]));
-                expect_refused(settings, &[0], refusal::LIST_LENGTH, 0);
+                expect_refused(settings, &[0], Reason::ListLength, 0);
             } else {
-                expect_refused(settings, &[], refusal::SETTINGS, 0);
-                expect_refused(settings, &[0], refusal::SETTINGS, 0);
+                expect_refused(settings, &[], Reason::Settings, 0);
+                expect_refused(settings, &[0], Reason::Settings, 0);
             }
         }
     }
@@ -161,7 +157,7 @@ fn lists_that_are_not_whole() {
             if length.is_multiple_of(settings.entry_len()) {
                 written(settings, &list[..length]);
             } else {
-                expect_refused(settings, &list[..length], refusal::LIST_LENGTH, 0);
+                expect_refused(settings, &list[..length], Reason::ListLength, 0);
             }
         }
     }
@@ -175,7 +171,7 @@ fn keys_are_compared_whole_and_unsigned() {
             round_trip(settings, &list, &written(settings, &list));
             let (one, other) = list.split_at_mut(settings.entry_len());
             one.swap_with_slice(other);
-            expect_refused(settings, &list, refusal::INDEX_ORDER, 1);
+            expect_refused(settings, &list, Reason::IndexOrder, 1);
         }
     }
 }
@@ -196,7 +192,7 @@ fn the_first_entry_out_of_order() {
                 put_out_of_order(&mut random, settings, &mut list, later);
             }
             let room = [0, settings.file_len(entries)][random.up_to(1)];
-            let refused = refusal_at(refusal::INDEX_ORDER, first);
+            let refused = refusal_at(Reason::IndexOrder, first);
             assert_eq!(compare(settings, &list, room), Err(refused));
         }
     }
@@ -214,12 +210,12 @@ fn put_out_of_order(random: &mut Random, settings: Settings, list: &mut [u8], en
 }
 
 /// The faults of what is to be written, in the order of their refusals.
-const FAULTS: [u32; 5] = [
-    refusal::SETTINGS,
-    refusal::LIST_LENGTH,
-    refusal::ENTRY_COUNT,
-    refusal::INDEX_ORDER,
-    refusal::OUTPUT_SHORT,
+const FAULTS: [Reason; 5] = [
+    Reason::Settings,
+    Reason::ListLength,
+    Reason::EntryCount,
+    Reason::IndexOrder,
+    Reason::OutputShort,
 ];
 
 /// Each set of faults, so each two of them too: the first in order is told.
@@ -230,32 +226,32 @@ fn the_order_of_refusals() {
     let mut list = counted_list(good, MOST_ENTRIES + 2);
     let second_key = list[good.entry_len()..][..good.key_len()].to_vec();
     for set in 0..1 << FAULTS.len() {
-        let has = |number: u32| {
-            let turn = FAULTS.iter().position(|&fault| fault == number);
+        let has = |reason: Reason| {
+            let turn = FAULTS.iter().position(|&fault| fault == reason);
             set >> turn.expect("this is one of them") & 1 == 1
         };
         let settings = Settings {
-            version: if has(refusal::SETTINGS) { 2 } else { 1 },
+            version: if has(Reason::Settings) { 2 } else { 1 },
             ..good
         };
-        let entries = if has(refusal::ENTRY_COUNT) {
+        let entries = if has(Reason::EntryCount) {
             MOST_ENTRIES + 1
         } else {
             3
         };
-        let length = entries * good.entry_len() + usize::from(has(refusal::LIST_LENGTH));
+        let length = entries * good.entry_len() + usize::from(has(Reason::ListLength));
         let key = &mut list[good.entry_len()..][..good.key_len()];
-        match has(refusal::INDEX_ORDER) {
+        match has(Reason::IndexOrder) {
             true => key.fill(0),
             false => key.copy_from_slice(&second_key),
         }
-        let room = match has(refusal::OUTPUT_SHORT) {
+        let room = match has(Reason::OutputShort) {
             true => good.file_len(3) - 1,
             false => good.file_len(entries),
         };
         let answer = compare(settings, &list[..length], room);
-        let expected = FAULTS.into_iter().find(|&number| has(number));
-        assert_eq!(answer.err().map(|refusal| refusal.number), expected);
+        let expected = FAULTS.into_iter().find(|&reason| has(reason));
+        assert_eq!(answer.err().map(|refusal| refusal.reason), expected);
     }
 }
 

@@ -1,11 +1,25 @@
-//! One entry of an index by its number.
+//! One entry: of an index, and of a list.
 
-use super::{Page, Slot, count};
-use crate::answer::{Search, number, searched};
-use crate::ffi;
+use super::{Page, Settings, Slot};
+use crate::answer::{Words, number, part, size};
+use crate::library;
 use crate::refusal::Refusal;
 
+/// The most bytes that an entry has: a key of 16, a size of 4 and a location of 6.
+const MOST: usize = 26;
+
 /// An entry of an index.
+///
+/// ```
+/// use dwarnizza::Index;
+/// use dwarnizza::index::{Settings, entry_bytes};
+///
+/// let settings = Settings { version: 1, offset_width: 6, key_length: 1 };
+/// let file = Index::write(settings, &entry_bytes(settings, [5], 7, 2, 9)?)?;
+/// let entry = Index::check(&file)?.entries().next().expect("it has one");
+/// assert_eq!((entry.key, entry.size, entry.archive, entry.offset), (&[5][..], 7, 2, 9));
+/// # Ok::<(), dwarnizza::Refusal>(())
+/// ```
 #[derive(Clone, Copy, Debug, PartialEq, Eq)]
 pub struct IndexEntry<'a> {
     /// The encoding key, as it stands in the index.
@@ -20,93 +34,91 @@ pub struct IndexEntry<'a> {
     pub page: Page,
     /// Its place on that page.
     pub slot: Slot,
+    /// The byte offset in the index where it stands.
+    pub place: usize,
 }
 
-/// Entry `entry` of an index, counted from 0 through all pages; none where the index has no more
-/// than so many. The time is the same for every index and number.
+impl<'a> IndexEntry<'a> {
+    /// The entry of this index that an answer names.
+    pub(super) fn from_words(index: &'a [u8], words: Words) -> Self {
+        let [
+            place,
+            key_length,
+            encoded_size,
+            archive,
+            offset,
+            page,
+            slot,
+            _,
+        ] = words;
+        Self {
+            key: part(index, place, key_length),
+            size: number(encoded_size),
+            archive: number(archive),
+            offset,
+            page: Page(number(page)),
+            slot: Slot(number(slot)),
+            place: size(place),
+        }
+    }
+}
+
+/// The bytes of one entry of a list.
 ///
-/// Of the full check it makes only that of footer and length, and is refused, by the first that
-/// holds, with [`INDEX_SHORT`], [`FOOTER_FIELD`], [`FOOTER_HASH`], [`ENTRY_COUNT`] and
-/// [`INDEX_LENGTH`].
+/// With offset width 6 a location is an archive number of two bytes and an offset of four; with 4
+/// and 5 it is the offset alone, and the archive is 0.
+///
+/// Refused, by the first that holds, with [`Settings`] where a setting is wrong or `archive` and
+/// `offset` do not fit the offset width, and with [`IndexKeyLength`] where the key has not as many
+/// bytes as the settings say.
 ///
 /// ```
-/// use dwarnizza::index::{self, Settings};
+/// use dwarnizza::index::{Settings, entry_bytes};
 ///
-/// let settings = Settings { version: 1, offset_width: 4, key_length: 1 };
-/// let list = [5, 0, 0, 0, 7, 0, 0, 0, 9]; // key 05, size 7, offset 9
-/// let mut file = vec![0; index::written_length(settings, &list)?];
-/// index::write(settings, &list, &mut file)?;
-/// let entry = index::unchecked_entry(&file, 0)?.expect("it has one");
-/// assert_eq!((entry.key, entry.size, entry.offset), (&[5][..], 7, 9));
-/// assert_eq!(index::unchecked_entry(&file, 1)?, None);
+/// let settings = Settings { version: 1, offset_width: 6, key_length: 1 };
+/// let entry = entry_bytes(settings, [5], 7, 2, 9)?;
+/// assert_eq!(entry, [5, 0, 0, 0, 7, 0, 2, 0, 0, 0, 9]);
 /// # Ok::<(), dwarnizza::Refusal>(())
 /// ```
 ///
-/// [`INDEX_SHORT`]: crate::refusal::INDEX_SHORT
-/// [`FOOTER_FIELD`]: crate::refusal::FOOTER_FIELD
-/// [`FOOTER_HASH`]: crate::refusal::FOOTER_HASH
-/// [`ENTRY_COUNT`]: crate::refusal::ENTRY_COUNT
-/// [`INDEX_LENGTH`]: crate::refusal::INDEX_LENGTH
-pub fn unchecked_entry(index: &[u8], entry: u64) -> Result<Option<IndexEntry<'_>>, Refusal> {
-    let search = searched(|answer| {
-        // SAFETY: pointer and length are those of one slice.
-        unsafe { ffi::dwarnizza_index_entry(index.as_ptr(), index.len(), entry, answer) }
-    })?;
-    let Search::Found([at, key_length, size, archive, offset, page, slot, _]) = search else {
-        return Ok(None);
-    };
-    Ok(Some(IndexEntry {
-        key: &index[count(at)..][..count(key_length)],
-        size: number(size),
-        archive: number(archive),
-        offset,
-        page: Page(number(page)),
-        slot: Slot(number(slot)),
-    }))
+/// [`Settings`]: crate::Reason::Settings
+/// [`IndexKeyLength`]: crate::Reason::IndexKeyLength
+pub fn entry_bytes(
+    settings: Settings,
+    key: impl AsRef<[u8]>,
+    size: u32,
+    archive: u32,
+    offset: u64,
+) -> Result<Vec<u8>, Refusal> {
+    let mut output = [0; MOST];
+    let length = entry_bytes_into(settings, key, size, archive, offset, &mut output)?;
+    Ok(output[..length].to_vec())
 }
 
-#[cfg(test)]
-mod tests {
-    use super::*;
-    use crate::answer::UNWRITTEN;
-    use crate::refusal::INDEX_SHORT;
-
-    /// The index of the keys 05 and 08 with this offset width, whose locations begin with their key.
-    fn index(offset_width: u8) -> Vec<u8> {
-        let settings = second::index::Settings {
-            version: 1,
-            offset_width,
-            key_length: 1,
-        };
-        let mut list = Vec::new();
-        for key in [5, 8] {
-            list.extend([key, 0, 0, 0, 7, key]);
-            list.resize(list.len() + usize::from(offset_width) - 1, 1);
-        }
-        let mut index = vec![0; settings.file_len(2)];
-        second::index::write(settings, &list, &mut index).unwrap();
-        index
-    }
-
-    fn call(index: &[u8], number: u64) -> (u32, [u64; 8]) {
-        let mut answer = UNWRITTEN;
-        // SAFETY: pointer and length are those of one slice.
-        let result =
-            unsafe { ffi::dwarnizza_index_entry(index.as_ptr(), index.len(), number, &mut answer) };
-        (result, answer)
-    }
-
-    #[test]
-    fn each_call_writes_the_whole_answer() {
-        let six = index(6);
-        assert_eq!(call(&six, 1), (0, [11, 1, 7, 0x0801, 0x0101_0101, 0, 1, 0]));
-        let five = index(5);
-        assert_eq!(call(&five, 1), (0, [10, 1, 7, 0, 0x08_0101_0101, 0, 1, 0]));
-        assert_eq!(call(&five, 2), (1, [0; 8]));
-        assert_eq!(call(&five, 1 << 32), (1, [0; 8]));
-        assert_eq!(
-            call(&five[..27], 0),
-            (2, [INDEX_SHORT.into(), 0, 0, 0, 0, 0, 0, 0])
-        );
-    }
+/// Writes the bytes of one entry of a list to the start of `output`, and gives how many they are.
+/// The bytes past them stay.
+///
+/// Refused as [`entry_bytes`] refuses, and then with [`OutputShort`](crate::Reason::OutputShort);
+/// the output is then as it was.
+///
+/// ```
+/// use dwarnizza::index::{Settings, entry_bytes_into};
+///
+/// let settings = Settings { version: 1, offset_width: 4, key_length: 1 };
+/// let mut output = [0xee; 10];
+/// assert_eq!(entry_bytes_into(settings, [5], 7, 0, 9, &mut output)?, 9);
+/// assert_eq!(output, [5, 0, 0, 0, 7, 0, 0, 0, 9, 0xee]);
+/// # Ok::<(), dwarnizza::Refusal>(())
+/// ```
+pub fn entry_bytes_into(
+    settings: Settings,
+    key: impl AsRef<[u8]>,
+    size: u32,
+    archive: u32,
+    offset: u64,
+    output: &mut [u8],
+) -> Result<usize, Refusal> {
+    let numbers = (size, archive, offset);
+    let [length, ..] = library::list_put(settings, key.as_ref(), numbers, output)?;
+    Ok(crate::answer::size(length))
 }

@@ -5,23 +5,24 @@
 use std::fmt::{self, Debug};
 use std::thread;
 
-use dwarnizza::Refusal;
 use dwarnizza::index::{Entry, Page, Settings, Slot};
+use dwarnizza::{Reason, Refusal};
 
 use crate::random::Random;
 
 /// A refusal outside a chain.
-pub fn refusal_at(number: u32, place: usize) -> Refusal {
-    Refusal {
-        number,
-        place: place as u64,
-        link: None,
-    }
+pub fn refusal_at(reason: Reason, place: usize) -> Refusal {
+    Refusal::new(reason, place as u64)
+}
+
+/// The reason of a number of the second program.
+pub fn reason(number: u32) -> Reason {
+    Reason::from_number(number).expect("the library has this number")
 }
 
 /// A refusal of the second program as the library has it.
 pub fn in_library_terms(refusal: second::refusal::Refusal) -> Refusal {
-    refusal_at(refusal.number, refusal.place as usize)
+    refusal_at(reason(refusal.number), refusal.place as usize)
 }
 
 /// Settings of the second program as the library has them.
@@ -112,13 +113,13 @@ impl Tally {
         self.count += 1;
         match answer {
             Ok(_) => self.passed += 1,
-            Err(refusal) => self.add_refusal(refusal.number),
+            Err(refusal) => self.add_refusal(refusal.reason),
         }
     }
 
     /// A further refusal of the same case.
-    pub fn add_refusal(&mut self, number: u32) {
-        self.refused[number as usize] += 1;
+    pub fn add_refusal(&mut self, reason: Reason) {
+        self.refused[reason.number() as usize] += 1;
     }
 
     /// Prints the counts, after seeing that some passed and each of these numbers was met.

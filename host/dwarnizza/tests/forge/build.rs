@@ -88,9 +88,9 @@ pub struct BuildFiles {
 }
 
 impl BuildFiles {
-    /// A build of good files of any layout. Most content keys of the root file stand in the encoding
-    /// file, and most first encoding keys in the index. Where key sizes differ, they do but for what
-    /// was cut or filled up.
+    /// A build of good files of any layout. Most content keys of the root file stand in the
+    /// encoding file, and most first encoding keys in the index. Where key sizes differ, they do
+    /// but for what was cut or filled up.
     pub fn random(random: &mut Random) -> Self {
         let mut index = IndexFile::random_layout(random);
         let mut key_lens = [16, index.settings.key_len()];

@@ -272,8 +272,8 @@ fn padding(random: &mut Random, key_len: usize) -> Vec<u8> {
     .bytes()
 }
 
-/// Pages of entries with rising keys, by what stands before an entry, by the entry of a key where so
-/// many bytes of the page are left, and by what closes a page.
+/// Pages of entries with rising keys, by what stands before an entry, by the entry of a key where
+/// so many bytes of the page are left, and by what closes a page.
 fn table(
     random: &mut Random,
     key_len: usize,
@@ -282,42 +282,82 @@ fn table(
     close: impl Fn(&mut Random, &mut Vec<u8>, usize),
 ) -> (TableParts, Vec<Entry>) {
     let page_kb = [1, 1, 1, 1, 2, 3][random.up_to(5)];
-    let page_len = usize::from(page_kb) * 1024;
     let full = usize::MAX;
     let (most_on_page, most) =
         [(1, 4), (3, 9), (full, 6), (full, 60), (full, 200)][random.up_to(4)];
     let count = 1 + random.up_to(most);
-    let mut pages = vec![Vec::new()];
-    let mut entries = Vec::new();
-    let mut on_page = 0;
+    let mut filling = Filling::new(usize::from(page_kb) * 1024, most_on_page);
     for key in rising_keys(random, key_len, count) {
-        let page = pages.last_mut().expect("there is one");
         let before = before(random);
-        let left = page_len - page.len();
-        let bytes = entry(random, &key, left.saturating_sub(before.len()));
-        if on_page == most_on_page || before.len() + bytes.len() > left {
-            close(random, page, left);
-            pages.push(Vec::new());
-            on_page = 0;
+        let room = filling.left().saturating_sub(before.len());
+        let bytes = entry(random, &key, room);
+        if filling.is_full_for(before.len() + bytes.len()) {
+            let left = filling.left();
+            close(random, filling.page(), left);
+            filling.turn_page();
         }
-        on_page += 1;
-        let number = pages.len() - 1;
-        let page = &mut pages[number];
-        page.extend(before);
-        entries.push(Entry {
-            page: number,
-            at: page.len(),
-            length: bytes.len(),
-        });
-        page.extend(bytes);
+        filling.add(&before, &bytes);
     }
-    let page = pages.last_mut().expect("there is one");
-    let left = page_len - page.len();
-    close(random, page, left);
+    let left = filling.left();
+    close(random, filling.page(), left);
     let parts = TableParts {
         key_size: key_len as u8,
         page_kb,
-        pages,
+        pages: filling.pages,
     };
-    (parts, entries)
+    (parts, filling.entries)
+}
+
+/// Pages that are filled one after the other.
+struct Filling {
+    page_len: usize,
+    most_on_page: usize,
+    pages: Vec<Vec<u8>>,
+    entries: Vec<Entry>,
+    /// How many entries stand on the last page.
+    on_page: usize,
+}
+
+impl Filling {
+    fn new(page_len: usize, most_on_page: usize) -> Self {
+        Self {
+            page_len,
+            most_on_page,
+            pages: vec![Vec::new()],
+            entries: Vec::new(),
+            on_page: 0,
+        }
+    }
+
+    /// The last page.
+    fn page(&mut self) -> &mut Vec<u8> {
+        self.pages.last_mut().expect("there is one")
+    }
+
+    /// How many bytes of it are left.
+    fn left(&mut self) -> usize {
+        self.page_len - self.page().len()
+    }
+
+    fn is_full_for(&mut self, length: usize) -> bool {
+        self.on_page == self.most_on_page || length > self.left()
+    }
+
+    fn turn_page(&mut self) {
+        self.pages.push(Vec::new());
+        self.on_page = 0;
+    }
+
+    /// Adds an entry, after what stands before it.
+    fn add(&mut self, before: &[u8], bytes: &[u8]) {
+        self.page().extend(before);
+        let entry = Entry {
+            page: self.pages.len() - 1,
+            at: self.page().len(),
+            length: bytes.len(),
+        };
+        self.entries.push(entry);
+        self.page().extend(bytes);
+        self.on_page += 1;
+    }
 }

@@ -284,8 +284,8 @@ pub fn counted_list(settings: Settings, entries: usize) -> Vec<u8> {
     list
 }
 
-/// Lists of two entries whose keys differ first at one place, for each place of a key and some pairs of bytes there that rise
-/// as unsigned bytes. What follows that byte is against its order.
+/// Lists of two entries whose keys differ first at one place, for each place of a key and some
+/// pairs of bytes there that rise as unsigned bytes. What follows that byte is against its order.
 pub fn neighbour_lists(settings: Settings) -> impl Iterator<Item = Vec<u8>> {
     let pairs = [(0, 1), (0x7f, 0x80), (0x7f, 0xff), (0xfe, 0xff), (1, 0x80)];
     (0..settings.key_len()).flat_map(move |place| {

@@ -1,6 +1,6 @@
 //! Root files.
 
-use dwarnizza::{Refusal, refusal};
+use dwarnizza::{Reason, Refusal};
 use second::root::{BlockParts, Header, MAGICS, Record, write};
 
 use super::{FileKind, flip};
@@ -110,11 +110,11 @@ impl RootFile {
 
     /// What a file with this fault first is refused with.
     pub fn refusal(&self, block: usize, fault: Fault) -> Refusal {
-        let number = match fault {
-            Fault::Cut => refusal::BLOCK_CUT,
-            Fault::Id => refusal::ID_RANGE,
+        let reason = match fault {
+            Fault::Cut => Reason::BlockCut,
+            Fault::Id => Reason::IdRange,
         };
-        refusal_at(number, self.place(block))
+        refusal_at(reason, self.place(block))
     }
 
     /// Puts a fault into a block of a good file. Other blocks stay as they are.

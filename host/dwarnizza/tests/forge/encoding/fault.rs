@@ -1,6 +1,6 @@
 //! Faults of encoding files.
 
-use dwarnizza::{Refusal, refusal};
+use dwarnizza::{Reason, Refusal};
 
 use super::{BOTH, EncodingFile, Kind};
 use crate::compare::refusal_at;
@@ -40,20 +40,20 @@ pub enum PageFault {
 impl Fault {
     /// What a file with this fault first is refused with.
     pub fn refusal(self) -> Refusal {
-        let (number, place) = match self {
-            Fault::Magic => (refusal::NOT_ENCODING, 0),
-            Fault::Field => (refusal::ENCODING_HEADER, 0),
-            Fault::Cut => (refusal::ENCODING_CUT, 0),
-            Fault::OpenSpecs => (refusal::SPEC_TABLE_OPEN, 0),
+        let (reason, place) = match self {
+            Fault::Magic => (Reason::NotEncoding, 0),
+            Fault::Field => (Reason::EncodingHeader, 0),
+            Fault::Cut => (Reason::EncodingCut, 0),
+            Fault::OpenSpecs => (Reason::SpecTableOpen, 0),
             Fault::Page(_, page, fault) => match fault {
-                PageFault::Hash => (refusal::ENCODING_PAGE_HASH, page),
-                PageFault::OverEnd => (refusal::ENTRY_OVER_PAGE, page),
-                PageFault::FirstKey => (refusal::FIRST_KEY, page),
-                PageFault::Order => (refusal::ENCODING_ORDER, page),
-                PageFault::Spec => (refusal::SPEC_NUMBER, 0),
+                PageFault::Hash => (Reason::EncodingPageHash, page),
+                PageFault::OverEnd => (Reason::EntryOverPage, page),
+                PageFault::FirstKey => (Reason::FirstKey, page),
+                PageFault::Order => (Reason::EncodingOrder, page),
+                PageFault::Spec => (Reason::SpecNumber, 0),
             },
         };
-        refusal_at(number, place)
+        refusal_at(reason, place)
     }
 }
 

@@ -1,0 +1,67 @@
+//! The exports that check a file and then search or write it, on any bytes. The wrapper makes these
+//! calls only on files that passed the check.
+
+#![allow(dead_code)] // Each test uses a part of it.
+
+use dwarnizza::root::Record;
+use dwarnizza::{Reason, Refusal};
+use dwarnizza_sys as ffi;
+
+/// The words of an answer; none where what was sought is absent.
+fn answered(call: impl FnOnce(&mut [u64; 8]) -> u32) -> Result<Option<[u64; 8]>, Refusal> {
+    let mut words = [u64::MAX; 8];
+    match call(&mut words) {
+        0 => Ok(Some(words)),
+        1 => Ok(None),
+        2 => {
+            let reason = Reason::from_number(words[0] as u32);
+            Err(Refusal::new(reason.expect("it is a reason"), words[1]))
+        }
+        result => panic!("{result} is no result"),
+    }
+}
+
+/// The length that a call says it wrote.
+fn written(call: impl FnOnce(&mut [u64; 8]) -> u32) -> Result<usize, Refusal> {
+    let words = answered(call)?;
+    Ok(words.expect("it is never absent")[0] as usize)
+}
+
+/// The list of an index.
+pub fn list(index: &[u8], output: &mut [u8]) -> Result<usize, Refusal> {
+    let (room, length) = (output.as_mut_ptr(), output.len());
+    // SAFETY: each pointer and length are those of one slice, and the slices do not overlap.
+    written(|answer| unsafe {
+        ffi::dwarnizza_index_list(index.as_ptr(), index.len(), room, length, answer)
+    })
+}
+
+/// The content of an envelope.
+pub fn open(file: &[u8], key: &[u8], output: &mut [u8]) -> Result<usize, Refusal> {
+    // SAFETY: each pointer and length are those of one slice, and the output overlaps no other.
+    written(|answer| unsafe {
+        ffi::dwarnizza_envelope_open(
+            file.as_ptr(),
+            file.len(),
+            key.as_ptr(),
+            key.len(),
+            output.as_mut_ptr(),
+            output.len(),
+            answer,
+        )
+    })
+}
+
+/// The record of a file number.
+pub fn find(file: &[u8], id: u32, locale: u32, unwanted: u64) -> Result<Option<Record>, Refusal> {
+    let (start, length) = (file.as_ptr(), file.len());
+    let mut key = [0; 16];
+    // SAFETY: pointer and length are those of one slice.
+    let words = answered(|answer| unsafe {
+        ffi::dwarnizza_root_find(start, length, id, locale, unwanted, &mut key, answer)
+    })?;
+    Ok(words.map(|words| Record {
+        key,
+        place: words[0] as usize,
+    }))
+}
