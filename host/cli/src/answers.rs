@@ -7,6 +7,14 @@ use crate::name::shown;
 use crate::output::{Field, Output};
 use crate::status::{Failure, Status};
 
+/// What `--help` says of the commands that check files which come in envelopes.
+pub const CHECK_HELP: &str = "\
+It prints a line for each file:
+  ok FILE
+  refused FILE NUMBER PLACE
+  failed FILE where it could not be read
+A FILE is taken out of its envelope (blte open).";
+
 /// Answers `ok` with these fields, or why not, for each file that is named.
 pub fn each_file(
     arguments: &Arguments,
@@ -20,7 +28,7 @@ pub fn each_file(
                 fields.extend(more);
                 output.answer("ok", &fields)?;
             }
-            Err(failure) => output.failed(fields, &failure)?,
+            Err(failure) => output.failed_file(name, &failure)?,
         }
     }
     Ok(())

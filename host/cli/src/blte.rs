@@ -5,31 +5,31 @@ pub mod open;
 
 use std::ffi::OsStr;
 
-use dwarnizza::{Refusal, envelope, refusal};
+use dwarnizza::{Envelope, Reason, Refusal};
 
-use crate::input::{MOST, read_judged};
+use crate::input::read_judged;
 use crate::status::Failure;
-use crate::words::{FIRST, kind_help};
+use crate::words::kind_help;
 
 /// The bytes of an envelope. A file that is none by its first bytes is not read whole.
 fn read(name: &OsStr) -> Result<Vec<u8>, Failure> {
-    read_judged(name, MOST, FIRST, |first| {
-        let refusal = envelope::envelope_key(first).err()?;
-        (refusal.number == refusal::NOT_BLTE).then(|| refused(name, refusal, first))
+    read_judged(name, |first| {
+        let refusal = Envelope::key_of(first).err()?;
+        let by_magic = refusal.reason == Reason::NotBlte;
+        by_magic.then(|| refused(name, refusal, first))
     })
 }
 
 /// The library refused this file.
 fn refused(name: &OsStr, refusal: Refusal, file: &[u8]) -> Failure {
-    let first = &file[..file.len().min(FIRST as usize)];
-    let help = match refusal.number {
-        refusal::NOT_BLTE => kind_help(first, "an envelope"),
-        refusal::CHUNK_SIZES => "cut in download? Fetch it again".to_string(),
-        refusal::ENVELOPE_HEADER | refusal::CHUNK_HASH | refusal::DECODED_SIZE => {
+    let help = match refusal.reason {
+        Reason::NotBlte => kind_help(file, "an envelope"),
+        Reason::ChunkSizes => "cut in download? Fetch it again".to_string(),
+        Reason::EnvelopeHeader | Reason::ChunkHash | Reason::DecodedSize => {
             "it is damaged: fetch it again".to_string()
         }
-        refusal::CHUNK_MODE => "packed and encrypted chunks are not opened".to_string(),
-        refusal::ENVELOPE_KEY => {
+        Reason::ChunkMode => "packed and encrypted chunks are not opened".to_string(),
+        Reason::EnvelopeKey => {
             "it is another envelope; `dwarnizza blte key` tells its key".to_string()
         }
         _ => String::new(),

@@ -28,8 +28,8 @@ pub struct Command {
 pub struct Choice {
     /// With its dashes.
     pub name: &'static str,
-    /// What its value is called, where it has one. With dots at the end, as in `FILE...`, the option
-    /// may be given several times.
+    /// What its value is called, where it has one. With dots at the end, as in `FILE...`, the
+    /// option may be given several times.
     pub value: Option<&'static str>,
     pub summary: &'static str,
 }

@@ -7,7 +7,7 @@ use std::os::unix::ffi::OsStringExt;
 use std::path::{Path, PathBuf};
 
 use crate::command::Choice;
-use crate::input::{MOST, read};
+use crate::input::read;
 use crate::name::shown;
 use crate::status::{Failure, Status};
 
@@ -20,7 +20,7 @@ pub const FILES_FROM: Choice = Choice {
 
 /// The names in a file: each closed by a zero byte where it has one, else by a line feed.
 pub fn names_from(file: &OsStr) -> Result<Vec<OsString>, Failure> {
-    let bytes = read(file, MOST)?;
+    let bytes = read(file)?;
     let end = if bytes.contains(&0) { 0 } else { b'\n' };
     let names = bytes.split(|&byte| byte == end);
     let names = names.filter(|name| !name.is_empty());
@@ -29,8 +29,8 @@ pub fn names_from(file: &OsStr) -> Result<Vec<OsString>, Failure> {
         .collect())
 }
 
-/// Each name that is a file, and for each that is a folder the files in it and below it whose
-/// names end in `.index`, in the order of their paths. Folders that are links are not entered. A folder
+/// Each name that is a file, and for each that is a folder the files in it and below it whose names
+/// end in `.index`, in the order of their paths. Folders that are links are not entered. A folder
 /// that cannot be read stays in the list: to read it as a file fails, and tells why.
 pub fn indexes(names: &[OsString]) -> Vec<OsString> {
     let mut found = Vec::new();
@@ -46,11 +46,7 @@ pub fn indexes(names: &[OsString]) -> Vec<OsString> {
 
 /// There is nothing to do, which is hardly what was meant.
 pub fn no_index() -> Failure {
-    Failure {
-        status: Status::Absent,
-        words: "there is no file whose name ends in .index".to_string(),
-        refusal: None,
-    }
+    Failure::new(Status::Absent, "there is no file whose name ends in .index")
 }
 
 /// Refuses a folder.

@@ -53,7 +53,9 @@ fn main() -> ExitCode {
     let arguments: Vec<OsString> = env::args_os().skip(1).collect();
     let mut output = Output::new();
     if let Err(failure) = run(&arguments, &mut output) {
-        output.fail(&failure);
+        if let Err(failure) = output.failed_command(&failure) {
+            output.fail(&failure);
+        }
         if failure.status == Status::Usage {
             output.error_bytes(b"`dwarnizza --help` tells all commands.\n");
         }

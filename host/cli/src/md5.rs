@@ -1,13 +1,13 @@
 //! `dwarnizza md5`: digests of files, as md5sum prints them, and the check of such lists.
 
 use std::ffi::{OsStr, OsString};
-use std::io;
+use std::io::{self, Read};
 use std::os::unix::ffi::OsStringExt;
 
 use dwarnizza::Md5;
 
 use crate::command::{Arguments, Choice, Command};
-use crate::input::{MOST, open, read};
+use crate::input::{open, read};
 use crate::name::{hex, shown};
 use crate::output::Output;
 use crate::status::{Failure, Status};
@@ -26,10 +26,13 @@ pub const COMMAND: Command = Command {
     options: &[CHECK],
     help: "It prints a line for each file, as md5sum does: the digest, two blanks and the name, after a\n\
            backslash where the name is escaped. With --json it is an answer:\n  \
-           ok FILE DIGEST\n\
+           ok FILE DIGEST\n  \
+           failed FILE where it could not be read\n\
            With -c it prints a line for each file of the lists:\n  \
            ok FILE\n  \
-           differs FILE DIGEST WANTED-DIGEST, with exit status 2",
+           differs FILE DIGEST WANTED-DIGEST, with exit status 2\n  \
+           failed FILE where it could not be read\n\
+           and for each line of a list that is none, refused LIST - -",
     run,
 };
 
@@ -48,52 +51,47 @@ fn run(arguments: &Arguments, output: &mut Output) -> Result<(), Failure> {
     } else {
         digest_line
     };
-    for name in names {
-        if let Err(failure) = each(name, output)? {
-            output.fail(&failure);
-        }
-    }
-    Ok(())
+    names.iter().try_for_each(|name| each(name, output))
 }
 
-/// What became of one file; the outer failure is that of standard output.
-type Done = Result<Result<(), Failure>, Failure>;
-
 /// Says the digest of a file.
-fn digest_line(name: &OsStr, output: &mut Output) -> Done {
+fn digest_line(name: &OsStr, output: &mut Output) -> Result<(), Failure> {
     let digest = match digest_of(name) {
         Ok(digest) => hex(&digest),
-        Err(failure) => return Ok(Err(failure)),
+        Err(failure) if output.json => return output.failed_file(name, &failure),
+        Err(failure) => {
+            output.fail(&failure);
+            return Ok(());
+        }
     };
     let said = shown(name);
     if output.json {
-        output.answer("ok", &[("file", said.into()), ("digest", digest.into())])?;
-    } else {
-        let escaped = if name == OsStr::new(&said) { "" } else { "\\" };
-        output.bytes(format!("{escaped}{digest}  {said}\n").as_bytes())?;
+        return output.answer("ok", &[("file", said.into()), ("digest", digest.into())]);
     }
-    Ok(Ok(()))
+    let escaped = if name == OsStr::new(&said) { "" } else { "\\" };
+    output.bytes(format!("{escaped}{digest}  {said}\n").as_bytes())
 }
 
 /// Checks the files of a list.
-fn check_list(list: &OsStr, output: &mut Output) -> Done {
-    let bytes = match read(list, MOST) {
+fn check_list(list: &OsStr, output: &mut Output) -> Result<(), Failure> {
+    let bytes = match read(list) {
         Ok(bytes) => bytes,
-        Err(failure) => return Ok(Err(failure)),
+        Err(failure) => return output.failed_file(list, &failure),
     };
     let lines = bytes.strip_suffix(b"\n").unwrap_or(&bytes);
     for (number, line) in (1..).zip(lines.split(|&byte| byte == b'\n')) {
         match parse(line) {
             Some((wanted, name)) => check_file(&name, &wanted, output)?,
             None => {
-                let list = shown(list);
-                output.fail(&Failure::unfit(format!(
-                    "{list}: line {number} is not a digest of 32 hex digits, two blanks and a name"
-                )));
+                let words = format!(
+                    "{}: line {number} is not a digest of 32 hex digits, two blanks and a name",
+                    shown(list)
+                );
+                output.failed_file(list, &Failure::unfit(words))?;
             }
         }
     }
-    Ok(Ok(()))
+    Ok(())
 }
 
 fn check_file(name: &OsStr, wanted: &[u8], output: &mut Output) -> Result<(), Failure> {

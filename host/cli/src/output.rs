@@ -1,20 +1,23 @@
 //! What a command says: answers on standard output, a line each, and words on standard error.
 //!
-//! An answer is a word (`ok`, `found`, `absent`, `refused`, `failed`, ..) and fields. Its line has the
-//! word and the fields' values with a tab between, `-` where a field has none; with `--json` it is
-//! one object, `{"answer":WORD,FIELD:VALUE,..}`, with `null` where a field has none.
+//! An answer is a word (`ok`, `found`, `absent`, `refused`, `failed`, ..) and fields. Its line has
+//! the word and the fields' values with a tab between, `-` where a field has none; with `--json` it
+//! is one object, `{"answer":WORD,FIELD:VALUE,..}`, with `null` where a field has none.
 
+use std::ffi::OsStr;
 use std::fs::File;
 use std::io::{self, BufWriter, IsTerminal, Write};
 use std::os::fd::{AsFd, BorrowedFd};
 use std::time::{Duration, Instant};
 
+use crate::name::shown;
 use crate::status::{Failure, Status};
 
 /// How long a progress line stays.
 const PROGRESS: Duration = Duration::from_millis(100);
 
 /// A value of a field.
+#[derive(Clone)]
 pub enum Value {
     /// Text that came through [`shown`](crate::name::shown), or that has no such characters.
     Text(String),
@@ -34,6 +37,8 @@ pub struct Output {
     /// Standard output is a terminal: answers and words come in their order.
     immediate: bool,
     pub json: bool,
+    /// Standard output takes the content of a file, and no lines.
+    pub content: bool,
     status: Status,
     /// Standard output has failed once, and is not tried again.
     broken: bool,
@@ -49,6 +54,7 @@ impl Output {
             terminal: io::stderr().is_terminal(),
             immediate: io::stdout().is_terminal(),
             json: false,
+            content: false,
             status: Status::Answered,
             broken: false,
             progress: None,
@@ -65,12 +71,41 @@ impl Output {
         self.bytes(line.as_bytes())
     }
 
+    /// Says that a file was refused, with number and place, or could not be read or written.
+    pub fn failed_file(
+        &mut self,
+        name: impl AsRef<OsStr>,
+        failure: &Failure,
+    ) -> Result<(), Failure> {
+        self.failed_shown(shown(name), failure)
+    }
+
+    /// The same of a name that is shown so.
+    fn failed_shown(&mut self, file: String, failure: &Failure) -> Result<(), Failure> {
+        let mut fields: Vec<Field> = vec![("file", file.into())];
+        if failure.status == Status::Refused && failure.refusal.is_none() {
+            fields.extend([("number", Value::None), ("place", Value::None)]);
+        }
+        self.failed(fields, failure)
+    }
+
+    /// Says why the command could not be done: of a file, where it is one that failed.
+    pub fn failed_command(&mut self, failure: &Failure) -> Result<(), Failure> {
+        match &failure.file {
+            Some(file) if !self.content => self.failed_shown(file.clone(), failure),
+            _ => {
+                self.fail(failure);
+                Ok(())
+            }
+        }
+    }
+
     /// Says an answer that is a failure: `refused`, or `failed` where a file could not be read or
     /// written. Its words go to standard error and, with `--json`, into the answer.
     pub fn failed(&mut self, fields: Vec<Field>, failure: &Failure) -> Result<(), Failure> {
         let mut fields = fields;
         if let Some(refusal) = failure.refusal {
-            fields.push(("number", refusal.number.into()));
+            fields.push(("number", refusal.number().into()));
             fields.push(("place", refusal.place.into()));
         }
         if self.json {

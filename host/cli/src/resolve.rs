@@ -3,14 +3,13 @@
 use std::collections::HashSet;
 use std::ffi::{OsStr, OsString};
 
-use dwarnizza::{Refusal, encoding, index, root};
+use dwarnizza::{CheckedEncoding, CheckedRoot, Encoding, Key, Reason, Refusal, Root};
 
 use crate::command::{Arguments, Choice, Command};
 use crate::files;
-use crate::index::find::INDEX;
-use crate::index::{Index, entry_at, entry_fields};
+use crate::index::search::{Before, INDEX, Searched, index_names, search};
 use crate::masks::{LOCALE, Masks, WITHOUT};
-use crate::name::{hex, shown, shown_bytes};
+use crate::name::{hex, shown_bytes};
 use crate::output::{Field, Output};
 use crate::parallel;
 use crate::status::{Failure, Status};
@@ -52,7 +51,8 @@ Lines, in the order of the file numbers; ROW is the worklist's row, - for a NUMB
   refused TEXT ROW
       no file number: decimal digits without a leading zero, up to 4294967295
 All files are checked whole first. An index that is refused or cannot be read has a line
-`refused FILE NUMBER PLACE` or `failed FILE` before them, and the others are searched.
+`refused FILE NUMBER PLACE` or `failed FILE` before them, and the others are searched; a root file
+or encoding file has such a line alone.
 
 A worklist is a CSV file, or a TSV file where its first row has a tab; --column says which column.
 `dwarnizza index find --help` tells more of worklists.",
@@ -66,26 +66,24 @@ fn run(arguments: &Arguments, output: &mut Output) -> Result<(), Failure> {
     if sought.is_empty() && worklist.is_none() {
         return Err(Failure::usage("a file number is missing"));
     }
-    let build = Build::read(arguments, masks, output)?;
-    let mut tally = Tally::default();
-    let mut seen = HashSet::new();
-    parallel::each(
-        &sought,
-        |sought| build.resolve(sought),
-        |sought, resolved| {
-            let answer = say(sought, resolved, output)?;
-            if sought.row.is_some() {
-                tally.count(answer);
-                let text = sought.text;
-                tally.duplicate += usize::from(text.is_some_and(|text| !seen.insert(text)));
-            }
-            Ok(())
-        },
-    )?;
-    if worklist.is_some() {
-        output.say(&tally.words());
+    let named = |option: Choice| {
+        let missing = || Failure::usage(format!("{} is missing", option.name));
+        arguments.value(option.name).ok_or_else(missing)
+    };
+    let (root, encoding) = (named(ROOT)?, named(ENCODING)?);
+    let names = index_names(arguments)?;
+    let keys = keys(&sought, root, encoding, masks)?;
+    let sought_keys = keys.iter().map(|key| match key {
+        Ok(Link::Encoding { key, .. }) => Some(*key),
+        _ => None,
+    });
+    let Searched { found, key_lengths } = search(&names, sought_keys, Before::FullCheck, output)?;
+    if key_lengths.is_empty() {
+        return Ok(());
     }
-    Ok(())
+    let answers = keys.into_iter().zip(found);
+    let answers = answers.map(|(key, place)| resolved(key?, place, &key_lengths));
+    say_all(sought.iter().zip(answers), worklist.is_some(), output)
 }
 
 /// What is sought.
@@ -122,6 +120,114 @@ fn sought<'a>(arguments: &'a Arguments, worklist: Option<&'a Worklist>) -> Vec<S
     operands.chain(rows).collect()
 }
 
+/// How far a file number was followed in root file and encoding file.
+enum Link {
+    /// To the link that has no entry of it.
+    Absent(&'static str),
+    /// To its encoding key.
+    Encoding { content_key: [u8; 16], key: Key },
+}
+
+/// The place of a file, or the link that has no entry of it.
+enum Resolved {
+    Found(Vec<Field>),
+    Absent(&'static str),
+}
+
+/// The encoding key of each file number, by these files.
+fn keys(
+    sought: &[Sought],
+    root_name: &OsStr,
+    encoding_name: &OsStr,
+    masks: Masks,
+) -> Result<Vec<Result<Link, Failure>>, Failure> {
+    let file = crate::root::read(root_name)?;
+    let root =
+        Root::check(&file).map_err(|refusal| crate::root::refused(root_name, refusal, &file))?;
+    let file = crate::encoding::read(encoding_name)?;
+    let refused = |refusal| crate::encoding::refused(encoding_name, refusal, &file);
+    let encoding = Encoding::check(&file).map_err(refused)?;
+    let mut keys = Vec::new();
+    parallel::each(
+        sought,
+        |sought| {
+            let number = sought.number.clone().map_err(Failure::unfit)?;
+            follow(number, masks, root, encoding).map_err(refused)
+        },
+        |_, key| {
+            keys.push(key);
+            Ok(())
+        },
+    )?;
+    Ok(keys)
+}
+
+/// Follows a file number through root file and encoding file; the encoding file may refuse.
+fn follow(
+    number: u32,
+    masks: Masks,
+    root: CheckedRoot<'_>,
+    encoding: CheckedEncoding<'_>,
+) -> Result<Link, Refusal> {
+    let Some(record) = root.find(number, masks.locale, masks.unwanted) else {
+        return Ok(Link::Absent("root"));
+    };
+    let Some(content) = encoding.find_content(record.key)? else {
+        return Ok(Link::Absent("encoding"));
+    };
+    let key = content.keys().next().and_then(Key::from_bytes);
+    Ok(Link::Encoding {
+        content_key: record.key,
+        key: key.expect("an entry has one key at least, of 1 to 16 bytes"),
+    })
+}
+
+/// What is known of a file after the indexes were searched: this is what they have of its key. An
+/// index whose keys have another length counts where no index has the key.
+fn resolved(
+    link: Link,
+    place: Option<Vec<Field>>,
+    key_lengths: &[(u8, OsString)],
+) -> Result<Resolved, Failure> {
+    let (content_key, key) = match link {
+        Link::Absent(link) => return Ok(Resolved::Absent(link)),
+        Link::Encoding { content_key, key } => (content_key, key),
+    };
+    if let Some(place) = place {
+        let mut fields = vec![("content_key", hex(&content_key).into())];
+        fields.extend(place);
+        return Ok(Resolved::Found(fields));
+    }
+    let length = key.as_bytes().len();
+    let mut lengths = key_lengths.iter();
+    match lengths.find(|(other, _)| usize::from(*other) != length) {
+        Some((_, index)) => {
+            let refusal = Refusal::new(Reason::IndexKeyLength, 0);
+            Err(Failure::refused(index, refusal, ""))
+        }
+        None => Ok(Resolved::Absent("index")),
+    }
+}
+
+/// Says each answer, and the count of rows.
+fn say_all<'a>(
+    answers: impl Iterator<Item = (&'a Sought<'a>, Result<Resolved, Failure>)>,
+    rows: bool,
+    output: &mut Output,
+) -> Result<(), Failure> {
+    let mut tally = Tally::default();
+    let mut seen = HashSet::new();
+    for (sought, resolved) in answers {
+        let answer = say(sought, resolved, output)?;
+        if sought.row.is_some() {
+            tally.count(answer);
+            let text = sought.text;
+            tally.duplicate += usize::from(text.is_some_and(|text| !seen.insert(text)));
+        }
+    }
+    if rows { tally.say(output) } else { Ok(()) }
+}
+
 /// Says one answer, and which it was.
 fn say(
     sought: &Sought,
@@ -150,139 +256,4 @@ fn say(
             Ok(failure.status)
         }
     }
-}
-
-/// The files that are searched.
-struct Build {
-    root: File,
-    encoding: File,
-    indexes: Vec<Index>,
-    masks: Masks,
-}
-
-/// A file that passed its full check, its name, and the words of its refusals.
-struct File {
-    name: OsString,
-    bytes: Vec<u8>,
-    words: fn(&OsStr, Refusal, &[u8]) -> Failure,
-}
-
-impl File {
-    fn refused(&self) -> impl Fn(Refusal) -> Failure {
-        |refusal| (self.words)(&self.name, refusal, &self.bytes)
-    }
-}
-
-/// The place of a file, or the link that has no entry of it.
-enum Resolved {
-    Found(Vec<Field>),
-    Absent(&'static str),
-}
-
-impl Build {
-    fn read(arguments: &Arguments, masks: Masks, output: &mut Output) -> Result<Self, Failure> {
-        let name = |option: Choice| {
-            let missing = || Failure::usage(format!("{} is missing", option.name));
-            arguments.value(option.name).ok_or_else(missing)
-        };
-        let (root, encoding) = (name(ROOT)?, name(ENCODING)?);
-        let mut paths = arguments.values(INDEX.name);
-        if let Some(file) = arguments.value(files::FILES_FROM.name) {
-            paths.extend(files::names_from(file)?);
-        }
-        if paths.is_empty() {
-            return Err(Failure::usage("an index is missing: --index PATH"));
-        }
-        let root = File {
-            name: root.to_owned(),
-            bytes: crate::root::read(root)?,
-            words: crate::root::refused,
-        };
-        root::check(&root.bytes).map_err(root.refused())?;
-        let encoding = File {
-            name: encoding.to_owned(),
-            bytes: crate::encoding::read(encoding)?,
-            words: crate::encoding::refused,
-        };
-        encoding::check(&encoding.bytes).map_err(encoding.refused())?;
-        Ok(Self {
-            root,
-            encoding,
-            indexes: indexes(&files::indexes(&paths), output)?,
-            masks,
-        })
-    }
-
-    /// Follows a file number from link to link.
-    fn resolve(&self, sought: &Sought) -> Result<Resolved, Failure> {
-        let number = sought.number.clone().map_err(Failure::unfit)?;
-        let (root, encoding) = (&self.root, &self.encoding);
-        let Masks { locale, unwanted } = self.masks;
-        let record = root::find(&root.bytes, number, locale, unwanted).map_err(root.refused())?;
-        let Some(record) = record else {
-            return Ok(Resolved::Absent("root"));
-        };
-        let content = encoding::find_content(&encoding.bytes, &record.key);
-        let Some(content) = content.map_err(encoding.refused())? else {
-            return Ok(Resolved::Absent("encoding"));
-        };
-        let key = content.keys().next().expect("there is one at least");
-        let Some(place) = self.find(key)? else {
-            return Ok(Resolved::Absent("index"));
-        };
-        let mut fields = vec![("content_key", hex(&record.key).into())];
-        fields.extend(place);
-        Ok(Resolved::Found(fields))
-    }
-
-    /// What the first index that has a key says of it. An index that refuses the key counts where
-    /// no other has it.
-    fn find(&self, key: &[u8]) -> Result<Option<Vec<Field>>, Failure> {
-        let mut refused = None;
-        for Index {
-            name,
-            bytes,
-            summary,
-        } in &self.indexes
-        {
-            match index::lookup(bytes, key) {
-                Ok(lookup) => {
-                    let found = lookup.found();
-                    let entry = found.and_then(|found| {
-                        entry_at(bytes, summary.entries as u64, found.page, found.slot)
-                    });
-                    if let Some(entry) = entry {
-                        let mut fields = Vec::from(entry_fields(summary.settings, &entry));
-                        fields.push(("index", shown(name).into()));
-                        return Ok(Some(fields));
-                    }
-                }
-                Err(refusal) => {
-                    refused.get_or_insert(Failure::refused(name, refusal, ""));
-                }
-            }
-        }
-        refused.map_or(Ok(None), Err)
-    }
-}
-
-/// Reads and checks indexes on all cores. One that is refused or cannot be read is told, and left
-/// out.
-fn indexes(names: &[OsString], output: &mut Output) -> Result<Vec<Index>, Failure> {
-    let mut indexes = Vec::new();
-    let mut done = 0;
-    parallel::each(
-        names,
-        |name| Index::checked(name),
-        |name, index| {
-            done += 1;
-            output.progress(done, names.len());
-            match index {
-                Ok(index) => indexes.push(index),
-                Err(failure) => output.failed(vec![("file", shown(name).into())], &failure)?,
-            }
-            Ok(())
-        },
-    )?;
-    Ok(indexes)
 }

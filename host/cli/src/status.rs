@@ -37,40 +37,37 @@ pub struct Failure {
     pub words: String,
     /// What the library refused, where it did.
     pub refusal: Option<Refusal>,
+    /// The file that was refused, or could not be read or written, as outputs show it.
+    pub file: Option<String>,
 }
 
 impl Failure {
-    pub fn usage(words: impl Into<String>) -> Self {
+    pub fn new(status: Status, words: impl Into<String>) -> Self {
         Self {
-            status: Status::Usage,
+            status,
             words: words.into(),
             refusal: None,
+            file: None,
         }
+    }
+
+    pub fn usage(words: impl Into<String>) -> Self {
+        Self::new(Status::Usage, words)
     }
 
     pub fn reading(name: &OsStr, error: &io::Error) -> Self {
-        Self::file("read", name, error)
+        let words = format!("cannot read {}: {error}", shown(name));
+        Self::new(Status::Unreadable, words).of_file(name)
     }
 
     pub fn writing(name: &OsStr, error: &io::Error) -> Self {
-        Self::file("write", name, error)
-    }
-
-    fn file(what: &str, name: &OsStr, error: &io::Error) -> Self {
-        Self {
-            status: Status::Unreadable,
-            words: format!("cannot {what} {}: {error}", shown(name)),
-            refusal: None,
-        }
+        let words = format!("cannot write {}: {error}", shown(name));
+        Self::new(Status::Unreadable, words).of_file(name)
     }
 
     /// Something is refused that the library does not see, such as a row of a list.
     pub fn unfit(words: impl Into<String>) -> Self {
-        Self {
-            status: Status::Refused,
-            words: words.into(),
-            refusal: None,
-        }
+        Self::new(Status::Refused, words)
     }
 
     /// The library refused this file. `help` says more, and what to do; it may be empty.
@@ -80,23 +77,25 @@ impl Failure {
             words += &format!("; {help}");
         }
         Self {
-            status: Status::Refused,
-            words,
             refusal: Some(refusal),
+            ..Self::unfit(words).of_file(name)
+        }
+    }
+
+    /// The same, of this file.
+    pub fn of_file(self, name: &OsStr) -> Self {
+        Self {
+            file: Some(shown(name)),
+            ..self
         }
     }
 
     /// Standard output could not be written. A closed pipe is no news to who closed it.
     pub fn output(error: &io::Error) -> Self {
-        let quiet = error.kind() == io::ErrorKind::BrokenPipe;
-        Self {
-            status: Status::Unreadable,
-            words: if quiet {
-                String::new()
-            } else {
-                format!("cannot write standard output: {error}")
-            },
-            refusal: None,
-        }
+        let words = match error.kind() {
+            io::ErrorKind::BrokenPipe => String::new(),
+            _ => format!("cannot write standard output: {error}"),
+        };
+        Self::new(Status::Unreadable, words)
     }
 }

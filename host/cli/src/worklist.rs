@@ -1,15 +1,16 @@
 //! Worklists: one column of a CSV or TSV file, as text.
 //!
-//! A row's number is that of the file, with the header, if any, as row 1. Fields may be quoted and lines end
-//! in LF or CRLF. Nothing is trimmed, padded or read as a number before it is judged.
+//! A row's number is that of the file, with the header, if any, as row 1. Fields may be quoted and
+//! lines end in LF or CRLF. Nothing is trimmed, padded or read as a number before it is judged.
 
 use std::ffi::OsStr;
 
 use dwarnizza::Key;
 
 use crate::command::{Choice, decimal};
-use crate::input::{MOST, read};
+use crate::input::read;
 use crate::name::{shown, shown_bytes};
+use crate::output::Output;
 use crate::status::{Failure, Status};
 
 /// The option that names a worklist.
@@ -54,8 +55,9 @@ impl Worklist {
 
     fn read(name: &OsStr, column: Option<&OsStr>) -> Result<Self, Failure> {
         let file = shown(name);
-        let bytes = read(name, MOST)?;
-        let records = records(&bytes).map_err(|why| Failure::unfit(format!("{file}: {why}")))?;
+        let bytes = read(name)?;
+        let records = records(&bytes)
+            .map_err(|why| Failure::unfit(format!("{file}: {why}")).of_file(name))?;
         let empty = Vec::new();
         let first = records.first().map_or(&empty, |(_, fields)| fields);
         let (place, named) = place_of(&file, first, column)?;
@@ -89,30 +91,23 @@ fn place_of(
     first: &[Vec<u8>],
     column: Option<&OsStr>,
 ) -> Result<(usize, bool), Failure> {
-    let shown_names = || {
-        first
-            .iter()
-            .map(|name| shown_bytes(name))
-            .collect::<Vec<_>>()
-            .join(", ")
-    };
+    let names: Vec<_> = first.iter().map(|name| shown_bytes(name)).collect();
+    let names = names.join(", ");
     let Some(column) = column else {
-        if first.len() > 1 {
-            let names = shown_names();
-            return Err(Failure::usage(format!(
+        return match first.len() {
+            0 | 1 => Ok((0, false)),
+            _ => Err(Failure::usage(format!(
                 "{file} has the columns {names}: --column says which"
-            )));
-        }
-        return Ok((0, false));
+            ))),
+        };
     };
-    let name = column.as_encoded_bytes();
+    let (name, said) = (column.as_encoded_bytes(), shown(column));
     let mut named = first.iter().enumerate().filter(|(_, field)| *field == name);
     match (named.next(), named.next()) {
         (Some((place, _)), None) => return Ok((place, true)),
         (Some(_), Some(_)) => {
-            let column = shown(column);
             return Err(Failure::usage(format!(
-                "{file} has two columns {column}: --column takes a number too"
+                "{file} has two columns {said}: --column takes a number too"
             )));
         }
         _ => {}
@@ -120,9 +115,7 @@ fn place_of(
     match decimal(name).and_then(|number| usize::try_from(number).ok()) {
         Some(number) if (1..=first.len()).contains(&number) => Ok((number - 1, false)),
         _ => Err(Failure::usage(format!(
-            "{file} has no column {}; it has {}",
-            shown(column),
-            shown_names()
+            "{file} has no column {said}; it has {names}"
         ))),
     }
 }
@@ -233,6 +226,12 @@ pub fn key(text: &[u8], key_length: u8) -> Result<Key, String> {
     })
 }
 
+/// The key that this is the text of, of whatever length.
+pub fn key_of_any_length(text: &[u8]) -> Option<Key> {
+    let length = u8::try_from(text.len() / 2).ok()?;
+    Key::from_text(text, length).ok()
+}
+
 /// The file number that this is the text of, or why it is none: decimal digits without a leading
 /// zero, up to 4294967295.
 pub fn file_number(text: &[u8]) -> Result<u32, String> {
@@ -276,16 +275,30 @@ impl Tally {
         }
     }
 
-    pub fn words(&self) -> String {
+    /// Says the counts: words, or the answer `summary`.
+    pub fn say(&self, output: &mut Output) -> Result<(), Failure> {
         let Self {
             found,
             absent,
             refused,
             duplicate,
-        } = self;
+        } = *self;
         let rows = found + absent + refused;
-        format!(
+        if output.json {
+            return output.answer(
+                "summary",
+                &[
+                    ("rows", rows.into()),
+                    ("found", found.into()),
+                    ("absent", absent.into()),
+                    ("refused", refused.into()),
+                    ("duplicate", duplicate.into()),
+                ],
+            );
+        }
+        output.say(&format!(
             "{rows} rows: {found} found, {absent} absent, {refused} refused; {duplicate} duplicate"
-        )
+        ));
+        Ok(())
     }
 }

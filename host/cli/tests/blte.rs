@@ -53,21 +53,28 @@ fn nothing_is_written_of_what_is_refused() {
     *bytes.last_mut().expect("it has bytes") ^= 1;
     fs::write(folder.join("damaged"), bytes).expect("a file can be written");
     let other = "--key=787f035563c5f6f125620f6c1b3c9565";
-    for (arguments, words) in [
+    for (arguments, number, words) in [
         (
             &["blte", "open", "damaged", "-o", "out"][..],
+            "23\t1",
             "refused 23 at 1",
         ),
         (
             &["blte", "open", other, "damaged", "-o", "out"],
+            "27\t0",
             "refused 27",
         ),
         (
             &["blte", "open", "--key=00417", "damaged", "-o", "out"],
+            "-\t-",
             "has 5 characters, a key has 32",
         ),
     ] {
-        expect(&folder, arguments, 2, "", words);
+        let refused = format!("refused\tdamaged\t{number}\n");
+        expect(&folder, arguments, 2, &refused, words);
         assert_eq!(fs::read_dir(&folder).expect("it is a folder").count(), 1);
     }
+    // Standard output is for the content, and has no line.
+    let refused = output(dwarnizza(["blte", "open", "damaged"]), &folder, b"");
+    assert!(refused.stdout.is_empty() && refused.status.code() == Some(2));
 }

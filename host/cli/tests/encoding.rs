@@ -50,12 +50,27 @@ fn a_damaged_page_is_named() {
         &folder,
         &["encoding", "find", "damaged", CONTENT],
         2,
-        "",
+        refused,
         words,
     );
+    expect(
+        &folder,
+        &["encoding", "spec", "damaged", "0"],
+        2,
+        refused,
+        words,
+    );
+    let arguments = ["encoding", "spec", "damaged", "0", "--unchecked"];
+    expect(&folder, &arguments, 0, "found\t0\tn\n", "");
     let found = format!("found\t{CONTENT}\t108\t{FIRST},{SECOND}\n");
     let arguments = ["encoding", "find", "--unchecked", "damaged", CONTENT];
     expect(&folder, &arguments, 0, &found, "");
+}
+
+#[test]
+fn a_cut_file_is_told() {
+    let folder = folder("encoding_cut");
+    let bytes = fs::read(sample().join("encoding")).expect("it is there");
     fs::write(folder.join("cut"), &bytes[..3000]).expect("a file can be written");
     let words = "cut in download? Fetch it again";
     expect(
@@ -132,7 +147,7 @@ fn a_file_of_30_gb_is_refused_without_being_read() {
     for (command, refused) in [
         (["encoding", "check"], "refused\tlong\t30\t0\n"),
         (["blte", "key"], "refused\tlong\t20\t0\n"),
-        (["root", "check"], "refused\tlong\n"),
+        (["root", "check"], "refused\tlong\t-\t-\n"),
     ] {
         let arguments = [&command[..], &["long"]].concat();
         run_in_2_gb(&folder, arguments).expect(2, refused, &["long: "]);

@@ -77,48 +77,51 @@ fn help_of_the_program_and_of_a_group() {
     );
 }
 
+/// Wrong arguments, and what is said of them.
+const WRONG: [(&[&str], &str); 19] = [
+    (&[], "a command is missing"),
+    (&["check"], "there is no command check"),
+    (&["lookup"], "there is no command lookup"),
+    (&["index"], "index: a second word is missing"),
+    (&["index", "lookup"], "there is no command index lookup"),
+    (&["index", "check"], "a file is missing"),
+    (&["index", "check", "-x", "a"], "there is no option -x"),
+    (
+        &["index", "check", "--json=1", "a"],
+        "--json takes no value",
+    ),
+    (
+        &["index", "check", "--names", "--names", "a"],
+        "--names is given twice",
+    ),
+    (
+        &["index", "check", "a", "--archives"],
+        "--archives wants DIR after it",
+    ),
+    (&["index", "list", "a", "b"], "one operand too many: b"),
+    (&["index", "write", "a"], "-o FILE is missing"),
+    (
+        &["index", "write", "a", "-o", "b", "--key", "16"],
+        "--key goes with --raw",
+    ),
+    (
+        &["index", "write", "a", "-o", "b", "--raw", "--key=x"],
+        "--index-version is missing",
+    ),
+    (&["index", "find", "--index", "a"], "a key is missing"),
+    (&["index", "find", "00"], "an index is missing"),
+    (
+        &["index", "find", "--column", "1", "00"],
+        "--column wants --worklist",
+    ),
+    (&["index", "diff", "a"], "two indexes are wanted"),
+    (&["index", "check", "."], ". is a folder; -r"),
+];
+
 #[test]
 fn wrong_usage() {
     let folder = folder("frame_wrong");
-    for (arguments, words) in [
-        (&[][..], "a command is missing"),
-        (&["check"], "there is no command check"),
-        (&["lookup"], "there is no command lookup"),
-        (&["index"], "index: a second word is missing"),
-        (&["index", "lookup"], "there is no command index lookup"),
-        (&["index", "check"], "a file is missing"),
-        (&["index", "check", "-x", "a"], "there is no option -x"),
-        (
-            &["index", "check", "--json=1", "a"],
-            "--json takes no value",
-        ),
-        (
-            &["index", "check", "--names", "--names", "a"],
-            "--names is given twice",
-        ),
-        (
-            &["index", "check", "a", "--archives"],
-            "--archives wants DIR after it",
-        ),
-        (&["index", "list", "a", "b"], "one operand too many: b"),
-        (&["index", "write", "a"], "-o FILE is missing"),
-        (
-            &["index", "write", "a", "-o", "b", "--key", "16"],
-            "--key goes with --raw",
-        ),
-        (
-            &["index", "write", "a", "-o", "b", "--raw", "--key=x"],
-            "--index-version is missing",
-        ),
-        (&["index", "find", "--index", "a"], "a key is missing"),
-        (&["index", "find", "00"], "an index is missing"),
-        (
-            &["index", "find", "--column", "1", "00"],
-            "--column wants --worklist",
-        ),
-        (&["index", "diff", "a"], "two indexes are wanted"),
-        (&["index", "check", "."], ". is a folder; -r"),
-    ] {
+    for (arguments, words) in WRONG {
         run(&folder, arguments).expect(64, "", &[words, "dwarnizza --help"]);
     }
 }

@@ -104,7 +104,8 @@ fn a_list_tells_what_differs_what_is_missing_and_what_is_no_line() {
         &digest[1..]
     );
     let ours = output(dwarnizza(["md5", "-c"]), &folder, list.as_bytes());
-    let answers = format!("ok\tthere\ndiffers\tthere\t{digest}\t{other}\n");
+    let refused = "refused\t-\t-\t-\n".repeat(2);
+    let answers = format!("ok\tthere\ndiffers\tthere\t{digest}\t{other}\n{refused}");
     assert_eq!(String::from_utf8_lossy(&ours.stdout), answers);
     let errors = String::from_utf8(ours.stderr).expect("errors are text");
     assert!(
@@ -128,4 +129,8 @@ fn json() {
     let line =
         "{\"answer\":\"ok\",\"file\":\"a\\\"b\",\"digest\":\"900150983cd24fb0d6963f7d28e17f72\"}\n";
     assert_eq!(String::from_utf8_lossy(&ours.stdout), line);
+    let ours = output(dwarnizza(["md5", "--json", "missing"]), &folder, b"");
+    let line = "{\"answer\":\"failed\",\"file\":\"missing\",\"words\":\"cannot read missing: ";
+    assert!(ours.stdout.starts_with(line.as_bytes()));
+    assert_eq!(ours.status.code(), Some(3));
 }

@@ -7,7 +7,7 @@ use std::fs;
 use std::path::Path;
 
 use forge::{W4, W6, index, key};
-use run::{folder, put, run, run_with};
+use run::{Run, copy_tree, folder, put, run, run_with, sample};
 
 /// Some indexes in folders, beside files that are none.
 fn mirror(folder: &Path) {
@@ -110,28 +110,133 @@ fn archives() {
     let check = ["index", "check", "abcd.index", "--archives", "data"];
     run(&folder, check).expect(
         3,
-        &format!("{ok}unjudged\tabcd.index\n"),
+        &format!("{ok}unjudged\tabcd.index\tabcd\n"),
         &["cannot read data/abcd"],
     );
     // The last entry is 13 bytes from byte 10.
     put(&folder, "data/abcd", [0; 23]);
     run(&folder, check).expect(0, &format!("{ok}inside\tabcd.index\t3\n"), &[]);
     put(&folder, "data/abcd", [0; 22]);
-    let outside = format!("{ok}outside\tabcd.index\t{}\t13\t10\t22\n", key(2));
-    run(&folder, check).expect(
-        2,
-        &outside,
-        &["1 entries lie outside their archive, which has 22 bytes"],
-    );
+    let outside = format!("{ok}outside\tabcd.index\t{}\t13\t10\t22\tabcd\n", key(2));
+    let words = ["1 of 3 entries lie outside their archive"];
+    run(&folder, check).expect(2, &outside, &words);
     fs::remove_file(folder.join("data/abcd")).expect("it goes");
     put(&folder, "data/ab/cd/abcd", [0; 23]);
     run(&folder, check).expect(0, &format!("{ok}inside\tabcd.index\t3\n"), &[]);
-    put(&folder, "abcd.index", index(W6, 3, 0));
-    run(&folder, check).expect(
-        2,
-        "ok\tabcd.index\t1\t6\t16\t3\t1\nunjudged\tabcd.index\n",
-        &["several archives"],
+}
+
+/// A footer that is damaged gives no name; one that is good gives it, whatever the pages hold.
+#[test]
+fn names_of_refused_indexes() {
+    let folder = folder("mirror_refused_names");
+    let good = index(W4, 3, 0);
+    let mut footer = good.clone();
+    *footer.last_mut().expect("it has bytes") ^= 1;
+    let mut page = good.clone();
+    page[4000] = 1;
+    put(&folder, "footer.index", footer);
+    put(&folder, "page.index", page);
+    let lines = format!(
+        "refused\tfooter.index\t3\t0\nrefused\tpage.index\t6\t0\nmisnamed\tpage.index\t{}\t-\n",
+        forge::name(&good)
     );
+    let check = ["index", "check", "--names", "footer.index", "page.index"];
+    run(&folder, check).expect(2, &lines, &["0 ok, 2 refused, 0 not read; 1 misnamed"]);
+}
+
+/// The index of several archives in the sample build, and its check by them.
+const GROUP: &str = "group/8055d3f0c6896ec8ef135a1791fcec0a.index";
+const CHECK_GROUP: [&str; 5] = ["index", "check", GROUP, "--archives", "archives"];
+
+/// The line of that index.
+fn group_is_ok() -> String {
+    format!("ok\t{GROUP}\t1\t6\t16\t63\t1\n")
+}
+
+/// The same check with the CDN config.
+fn check_by_config(folder: &Path) -> Run {
+    let config = ["--cdn-config", "cdn-config"];
+    run(folder, CHECK_GROUP.iter().chain(&config))
+}
+
+#[test]
+fn several_archives() {
+    let ok = group_is_ok();
+    let inside = format!("{ok}inside\t{GROUP}\t63\n");
+    check_by_config(&sample()).expect(0, &inside, &[]);
+    let unjudged = format!("{ok}unjudged\t{GROUP}\t-\n");
+    let words = ["several archives; --cdn-config FILE tells their names"];
+    run(&sample(), CHECK_GROUP).expect(2, &unjudged, &words);
+}
+
+/// One of several archives is cut, then missing, then not named.
+#[test]
+fn one_of_several_archives() {
+    let folder = folder("mirror_several");
+    copy_tree(&sample(), &folder);
+    let config = fs::read_to_string(folder.join("cdn-config")).expect("it is there");
+    let line = config.lines().next().expect("it has a line");
+    let names: Vec<&str> = line.split(' ').skip(2).collect();
+    let [first, second, third] = names[..] else {
+        panic!("it names three archives");
+    };
+    let archive = folder.join("archives").join(third);
+    let mut bytes = fs::read(&archive).expect("it is there");
+    bytes.pop();
+    fs::write(&archive, &bytes).expect("it can be written");
+    let cut = check_by_config(&folder);
+    let outside = cut.lines.strip_prefix(&group_is_ok());
+    let outside = outside.expect("its own line comes first");
+    let end = format!("\t{}\t{third}\n", bytes.len());
+    assert!(outside.starts_with("outside\t") && outside.ends_with(&end));
+    assert_eq!((cut.status, outside.lines().count()), (2, 1));
+    assert!(cut.errors.contains("1 of 63 entries"), "{}", cut.errors);
+
+    fs::remove_file(&archive).expect("it goes");
+    let unjudged = format!("{}unjudged\t{GROUP}\t{third}\n", group_is_ok());
+    let words = format!("cannot read archives/{third}: No such file");
+    check_by_config(&folder).expect(3, &unjudged, &[&words]);
+
+    put(
+        &folder,
+        "cdn-config",
+        format!("# CDN\narchives = {first} {second}\n"),
+    );
+    let unjudged = format!("{}unjudged\t{GROUP}\t2\n", group_is_ok());
+    let words = ["entries in archive 2, and cdn-config names 2 archives, from 0"];
+    check_by_config(&folder).expect(2, &unjudged, &words);
+}
+
+/// A file that is no CDN config judges nothing.
+#[test]
+fn other_cdn_configs() {
+    let folder = folder("mirror_config");
+    put(&folder, "six.index", index(W6, 3, 0));
+    let check = [
+        "index",
+        "check",
+        "six.index",
+        "--archives",
+        ".",
+        "--cdn-config",
+        "config",
+    ];
+    for (config, words) in [
+        (
+            &b"builds = 00\n"[..],
+            "config: it has no line `archives = NAME...`",
+        ),
+        (
+            b"archives = 00417\n",
+            "config: archives: \"00417\" has 5 characters, a key has 32",
+        ),
+        (b"archives = \xff\n", "config: it is no text"),
+    ] {
+        put(&folder, "config", config);
+        run(&folder, check).expect(2, "refused\tconfig\t-\t-\n", &[words]);
+    }
+    let check = ["index", "check", "six.index", "--cdn-config", "config"];
+    run(&folder, check).expect(64, "", &["--cdn-config wants --archives beside it"]);
 }
 
 /// The index that answered is named; one that is refused hides no other.

@@ -6,25 +6,11 @@ mod run;
 use std::fs;
 use std::path::Path;
 
-use run::{dwarnizza, folder, output};
+use run::{copy_tree, dwarnizza, folder, output};
 
 /// How a command begins, and what stands before each line of its output.
 const COMMAND: &str = "    $ ./dwarnizza ";
 const INDENT: &str = "    ";
-
-/// Copies a folder with all that is in it.
-fn copy(from: &Path, to: &Path) {
-    fs::create_dir_all(to).expect("a folder can be made");
-    for entry in fs::read_dir(from).expect("it is a folder") {
-        let path = entry.expect("its entries can be read").path();
-        let to = to.join(path.file_name().expect("it has a name"));
-        if path.is_dir() {
-            copy(&path, &to);
-        } else {
-            fs::copy(&path, &to).expect("a file can be copied");
-        }
-    }
-}
 
 /// The commands of a text, with the output that stands under each.
 fn commands(text: &str) -> Vec<(&str, String)> {
@@ -50,7 +36,7 @@ fn the_commands_give_what_stands_under_them() {
     let repository = Path::new(env!("CARGO_MANIFEST_DIR")).join("../..");
     let folder = folder("readme");
     for samples in ["sample", "samples"] {
-        copy(&repository.join(samples), &folder.join(samples));
+        copy_tree(&repository.join(samples), &folder.join(samples));
     }
     let text = fs::read_to_string(repository.join("README.md")).expect("it is there");
     let commands = commands(&text);

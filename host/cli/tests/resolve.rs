@@ -1,5 +1,6 @@
 //! `dwarnizza resolve`, on the sample build.
 
+mod forge;
 mod run;
 
 use std::fs;
@@ -172,7 +173,8 @@ fn other_files_are_refused_with_their_kind() {
         "archives",
         "5",
     ];
-    expect(&sample(), &arguments, 2, "", "BLTE envelope");
+    let refused = "refused\troot-v1.blte\t40\t0\n";
+    expect(&sample(), &arguments, 2, refused, "BLTE envelope");
     let arguments = [
         "resolve",
         "--root",
@@ -187,9 +189,42 @@ fn other_files_are_refused_with_their_kind() {
         &sample(),
         &arguments,
         2,
-        "",
+        "refused\troot-v2\t30\t0\n",
         "it is a root file and not an encoding file",
     );
+}
+
+/// Where no index can be searched, nothing is said to be absent.
+#[test]
+fn without_a_good_index_nothing_is_absent() {
+    let mut arguments = build("root-v1", "root-v2");
+    arguments.push("417");
+    let refused = "refused\troot-v2\t2\t0\n";
+    expect(&sample(), &arguments, 2, refused, "it is a root file");
+    let mut arguments = build("root-v1", "loose");
+    arguments.push("417");
+    let said = expect(&sample(), &arguments, 1, "", "ends in .index");
+    assert!(!said.contains("absent"), "{said}");
+}
+
+/// Keys are not cut: an index whose keys have another length cannot say that a file is absent.
+#[test]
+fn an_index_of_other_keys() {
+    let folder = folder("resolve_other_keys");
+    for name in ["root-v1", "encoding"] {
+        fs::copy(sample().join(name), folder.join(name)).expect("it can be copied");
+    }
+    let nine = second::index::Settings {
+        version: 1,
+        offset_width: 4,
+        key_length: 9,
+    };
+    fs::write(folder.join("nine.index"), forge::of_list(nine, &[])).expect("it can be written");
+    let mut arguments = build("root-v1", "nine.index");
+    arguments.extend(["417", "9001"]);
+    let lines = "refused\t417\t-\t10\t0\nabsent\t9001\tencoding\t-\n";
+    let words = "nine.index: refused 10: sought key not of the index's key length";
+    expect(&folder, &arguments, 2, lines, words);
 }
 
 #[test]

@@ -35,6 +35,7 @@ fn a_cut_file_is_refused_at_its_block() {
         &["root", "find", "cut", "417"],
     ] {
         let said = expect(&folder, arguments, 2, "", "block cut (block at byte ");
+        assert!(said.starts_with("refused\tcut\t40\t"), "{said}");
         assert!(said.contains("cut in download"), "{said}");
     }
 }

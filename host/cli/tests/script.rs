@@ -1,4 +1,5 @@
-//! The script `./dwarnizza`, in a copy of the repository's shape with stand-ins for `rt` and `cargo`.
+//! The script `./dwarnizza`, in a copy of the repository's shape with stand-ins for `rt` and
+//! `cargo`.
 
 mod run;
 
@@ -44,7 +45,13 @@ impl Repository {
         let top = folder(test);
         let script = Path::new(env!("CARGO_MANIFEST_DIR")).join("../../dwarnizza");
         fs::copy(script, top.join("dwarnizza")).expect("the script is there");
-        for folder in ["crates/one", "host/cli", "host/dwarnizza", "bin"] {
+        for folder in [
+            "crates/one",
+            "host/cli",
+            "host/dwarnizza",
+            "host/sys",
+            "bin",
+        ] {
             fs::create_dir_all(top.join(folder)).expect("a folder can be made");
         }
         for file in [
@@ -206,4 +213,21 @@ fn a_library_that_is_not_proved_is_not_used() {
         assert!(text(&said.stderr).contains("target/dwarnizza.log"));
         assert!(said.stdout.is_empty());
     }
+}
+
+/// A closed standard output is no success, and nothing is built for it.
+#[test]
+fn a_closed_standard_output() {
+    let repository = Repository::new("script_closed");
+    let mut shell = Command::new("/bin/sh");
+    shell
+        .args(["-c", "exec \"$0\" word >&-"])
+        .arg(repository.top.join("dwarnizza"))
+        .env("PATH", repository.top.join("bin"))
+        .env("CALLS", repository.top.join("calls"));
+    let closed = output(shell, Path::new("/"), b"");
+    assert_eq!(closed.status.code(), Some(3));
+    let words = "dwarnizza: cannot write standard output: it is closed\n";
+    assert_eq!(text(&closed.stderr), words);
+    assert_eq!(repository.calls(), "");
 }

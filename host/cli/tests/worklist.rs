@@ -46,6 +46,10 @@ fn a_column_of_quoted_rows() {
     for column in [&["--column", "the, key"][..], &["--column=2"]] {
         find(&folder, list.as_bytes(), column).expect(1, &lines, &words);
     }
+    let json = find(&folder, list.as_bytes(), &["--column=2", "--json"]);
+    let summary = "{\"answer\":\"summary\",\"rows\":3,\"found\":2,\"absent\":1,\"refused\":0,\"duplicate\":0}\n";
+    assert!(json.lines.ends_with(summary), "{}", json.lines);
+    assert_eq!((json.status, json.errors.as_str()), (1, ""));
     let marked = [b"\xef\xbb\xbf", list.as_bytes()].concat();
     find(&folder, &marked, &["--column", "the, key"]).expect(1, &lines, &words);
     let tabs = format!("id\tkey\n1\t{}\n", key(2));
@@ -112,50 +116,43 @@ fn the_first_row() {
 }
 
 #[test]
-fn lists_that_cannot_be_read() {
-    let folder = folder("worklist_bad");
-    let key = key(1);
-    for (list, column, status, words) in [
+fn columns_that_are_not_there() {
+    let folder = folder("worklist_columns");
+    let list = |first: &str| format!("{first}\n1,{}\n", key(1));
+    for (list, column, words) in [
         (
-            format!("a,b\n1,{key}\n"),
+            list("a,b"),
             None,
-            64,
             "list.csv has the columns a, b: --column says which",
         ),
         (
-            format!("a,b\n1,{key}\n"),
+            list("a,b"),
             Some("c"),
-            64,
             "list.csv has no column c; it has a, b",
         ),
-        (format!("a,b\n1,{key}\n"), Some("3"), 64, "has no column 3"),
-        (format!("a,b\n1,{key}\n"), Some("0"), 64, "has no column 0"),
-        (
-            format!("a,a\n1,{key}\n"),
-            Some("a"),
-            64,
-            "has two columns a",
-        ),
-        (
-            format!("a,b\n1,\"{key}\n"),
-            Some("b"),
-            2,
-            "row 2: a quoted field is not closed",
-        ),
-        (
-            format!("a,b\n1,\"00\"{key}\n"),
-            Some("b"),
-            2,
-            "row 2: something follows a closed quote",
-        ),
+        (list("a,b"), Some("3"), "has no column 3"),
+        (list("a,b"), Some("0"), "has no column 0"),
+        (list("a,a"), Some("a"), "has two columns a"),
     ] {
-        let column: Vec<_> = column
-            .iter()
-            .flat_map(|column| ["--column", column])
-            .collect();
-        find(&folder, list.as_bytes(), &column).expect(status, "", &[words]);
+        let column = column.map(|column| format!("--column={column}"));
+        let column: Vec<_> = column.iter().map(String::as_str).collect();
+        find(&folder, list.as_bytes(), &column).expect(64, "", &[words]);
     }
-    find(&folder, b"\xff\xfea\0", &[]).expect(2, "", &["UTF-16"]);
+}
+
+#[test]
+fn lists_that_cannot_be_read() {
+    let folder = folder("worklist_bad");
+    let open = format!("1,\"{}\n", key(1));
+    let after = format!("1,\"00\"{}\n", key(1));
+    for (list, words) in [
+        (open.as_bytes(), "row 1: a quoted field is not closed"),
+        (after.as_bytes(), "row 1: something follows a closed quote"),
+        (b"\xff\xfea\0", "UTF-16"),
+    ] {
+        let refused = "refused\tlist.csv\t-\t-\n";
+        find(&folder, list, &["--column=2"]).expect(2, refused, &[words]);
+    }
     let missing = ["index", "find", "--index", "index", "--worklist", "missing"];
-    run(&folder, missing).expect(3, "", &["cannot read missing"]);
+    run(&folder, missing).expect(3, "failed\tmissing\n", &["cannot read missing"]);
 }

@@ -14,50 +14,53 @@ use archive::{Archives, Place};
 use content::Content;
 use second::md5;
 
-/// The names of the files of the sample build, relative to its folder, and their bytes.
-pub fn files() -> Vec<(String, Vec<u8>)> {
+/// A file of the sample build: its name, relative to the folder, and its bytes.
+type File = (String, Vec<u8>);
+
+/// All files of the sample build.
+pub fn files() -> Vec<File> {
     let contents = content::contents();
     let archives = Archives::of(&contents);
-    let roots = [manifest::root_v1(&contents), manifest::root_v2(&contents)];
-    let root_envelopes = [
-        content::single(&roots[0]),
-        content::chunked(&roots[1], 1024),
-    ];
-    let roots_and_envelopes = [0, 1].map(|i| (&roots[i][..], &root_envelopes[i][..]));
-    let encoding = manifest::encoding(&contents, &roots_and_envelopes);
-    let encoding_envelope = content::chunked(&encoding, 4096);
-
     let mut files = archives.files();
-    files.push(("cdn-config".to_string(), archives.config().into_bytes()));
-    files.push((
-        "files.tsv".to_string(),
-        list(&contents, &archives).into_bytes(),
-    ));
-    files.push((
-        "worklist.csv".to_string(),
-        worklist::csv(&contents).into_bytes(),
-    ));
-    files.push((
-        "worklist.tsv".to_string(),
-        worklist::tsv(&contents).into_bytes(),
-    ));
-    for content in contents.iter().filter(|content| content.is_loose()) {
-        let name = hex(&content.encoding_key());
-        files.push((format!("loose/{name}"), content.envelope.clone()));
+    for (name, text) in [
+        ("cdn-config", archives.config()),
+        ("files.tsv", list(&contents, &archives)),
+        ("worklist.csv", worklist::csv(&contents)),
+        ("worklist.tsv", worklist::tsv(&contents)),
+    ] {
+        files.push((name.to_string(), text.into_bytes()));
     }
-    let [v1, v2] = roots;
-    let [v1_envelope, v2_envelope] = root_envelopes;
-    for (name, bytes) in [
+    files.extend(loose(&contents));
+    files.extend(manifests(&contents));
+    files
+}
+
+/// The envelopes of files that are in no archive.
+fn loose(contents: &[Content]) -> impl Iterator<Item = File> {
+    let loose = contents.iter().filter(|content| content.is_loose());
+    loose.map(|content| {
+        let name = hex(&content.encoding_key());
+        (format!("loose/{name}"), content.envelope.clone())
+    })
+}
+
+/// Root files and encoding file, each also in its envelope.
+fn manifests(contents: &[Content]) -> [File; 6] {
+    let [v1, v2] = [manifest::root_v1(contents), manifest::root_v2(contents)];
+    let v1_envelope = content::single(&v1);
+    let v2_envelope = content::chunked(&v2, 1024);
+    let roots = [(&v1[..], &v1_envelope[..]), (&v2, &v2_envelope)];
+    let encoding = manifest::encoding(contents, &roots);
+    let encoding_envelope = content::chunked(&encoding, 4096);
+    [
         ("root-v1", v1),
         ("root-v1.blte", v1_envelope),
         ("root-v2", v2),
         ("root-v2.blte", v2_envelope),
         ("encoding", encoding),
         ("encoding.blte", encoding_envelope),
-    ] {
-        files.push((name.to_string(), bytes));
-    }
-    files
+    ]
+    .map(|(name, bytes)| (name.to_string(), bytes))
 }
 
 /// The file numbers: a line of tab-separated fields for each, after a line that names the fields.

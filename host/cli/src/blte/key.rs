@@ -2,7 +2,7 @@
 
 use std::ffi::OsStr;
 
-use dwarnizza::envelope;
+use dwarnizza::Envelope;
 
 use super::{read, refused};
 use crate::answers::each_file;
@@ -30,7 +30,7 @@ fn run(arguments: &Arguments, output: &mut Output) -> Result<(), Failure> {
 
 fn key(name: &OsStr) -> Result<Vec<Field>, Failure> {
     let file = read(name)?;
-    match envelope::envelope_key(&file) {
+    match Envelope::key_of(&file) {
         Ok(key) => Ok(vec![("key", hex(&key).into())]),
         Err(refusal) => Err(refused(name, refusal, &file)),
     }

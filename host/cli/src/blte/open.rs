@@ -2,13 +2,13 @@
 
 use std::ffi::OsStr;
 
-use dwarnizza::{Key, envelope};
+use dwarnizza::{Envelope, Key};
 
 use super::{read, refused};
 use crate::command::{Arguments, Choice, Command};
-use crate::name::{hex, shown};
+use crate::name::shown;
 use crate::output::Output;
-use crate::replace::write_file;
+use crate::replace::{FORCE, OUT, write_file};
 use crate::status::Failure;
 use crate::worklist;
 
@@ -18,39 +18,35 @@ const KEY: Choice = Choice {
     summary: "the key that the envelope must have, as 32 hex digits; without it any",
 };
 
-const OUT: Choice = Choice {
-    name: "-o",
-    value: Some("OUT"),
-    summary: "write the content into the new file OUT; without it to standard output",
-};
-
-const FORCE: Choice = Choice {
-    name: "--force",
-    value: None,
-    summary: "replace OUT where it is there already",
-};
-
 pub const COMMAND: Command = Command {
     name: "blte open",
     operands: "FILE",
     summary: "check an envelope whole, and write its content",
     options: &[KEY, OUT, FORCE],
-    help: "With -o it prints a line:\n  \
-           ok FILE KEY OUT LENGTH\n\
-           Nothing is written of an envelope that is refused.",
+    help: "\
+Without -o the content goes to standard output. With -o it prints a line:
+  ok FILE KEY OUT LENGTH
+  refused FILE NUMBER PLACE
+  failed FILE
+      it could not be read, or the output file not be written
+Nothing is written of an envelope that is refused.",
     run,
 };
 
 fn run(arguments: &Arguments, output: &mut Output) -> Result<(), Failure> {
     let name = arguments.one_operand("a file")?;
-    let wanted = arguments.value(KEY.name).map(key).transpose()?;
+    let out = arguments.value(OUT.name);
+    output.content = out.is_none();
+    let wanted = arguments.value(KEY.name).map(key).transpose();
+    let wanted = wanted.map_err(|failure| failure.of_file(name))?;
     let file = read(name)?;
     let failed = |refusal| refused(name, refusal, &file);
-    let own = envelope::envelope_key(&file).map_err(failed)?;
-    let key = wanted.as_ref().map_or(&own[..], Key::as_bytes);
-    let mut content = vec![0; envelope::content_length(&file, key).map_err(failed)?];
-    envelope::open(&file, key, &mut content).map_err(failed)?;
-    let Some(out) = arguments.value(OUT.name) else {
+    let key = match wanted {
+        Some(key) => key,
+        None => Envelope::key_of(&file).map_err(failed)?.into(),
+    };
+    let content = Envelope::check(&file, key).map_err(failed)?.content();
+    let Some(out) = out else {
         return output.bytes(&content);
     };
     write_file(out, &content, arguments.has(FORCE.name))?;
@@ -58,7 +54,7 @@ fn run(arguments: &Arguments, output: &mut Output) -> Result<(), Failure> {
         "ok",
         &[
             ("file", shown(name).into()),
-            ("key", hex(key).into()),
+            ("key", key.to_string().into()),
             ("out", shown(out).into()),
             ("length", content.len().into()),
         ],

@@ -1,26 +1,19 @@
 //! `dwarnizza encoding find`: keys in an encoding file.
 
-use dwarnizza::encoding::{self, ContentEntry, EncodingEntry};
 use dwarnizza::{Key, Refusal};
 
-use super::{read, refused};
+use super::{Open, UNCHECKED, read, refused};
 use crate::answers::{each_sought, file_and_sought};
 use crate::command::{Arguments, Choice, Command};
 use crate::name::{hex, shown_bytes};
 use crate::output::{Field, Output};
 use crate::status::Failure;
-use crate::worklist;
+use crate::worklist::{self, key_of_any_length};
 
 const ENCODING_KEYS: Choice = Choice {
     name: "--encoding-keys",
     value: None,
     summary: "the keys are encoding keys, and not content keys",
-};
-
-const UNCHECKED: Choice = Choice {
-    name: "--unchecked",
-    value: None,
-    summary: "do not check the file whole first; a damaged one may then miss a key that it has",
 };
 
 pub const COMMAND: Command = Command {
@@ -32,7 +25,10 @@ pub const COMMAND: Command = Command {
            found KEY SIZE ENCODING-KEY[,ENCODING-KEY]... of a content key, with the decoded size\n  \
            found KEY SIZE SPEC-NUMBER SPEC of an encoding key, with the encoded size\n  \
            absent KEY\n  \
-           refused KEY NUMBER PLACE, or refused TEXT where it is no key",
+           refused KEY NUMBER PLACE, or refused TEXT where it is no key\n\
+           or one for the file:\n  \
+           refused FILE NUMBER PLACE\n  \
+           failed FILE where it could not be read",
     run,
 };
 
@@ -40,24 +36,22 @@ fn run(arguments: &Arguments, output: &mut Output) -> Result<(), Failure> {
     let (name, texts) = file_and_sought(arguments, "a key")?;
     let file = read(name)?;
     let failed = |refusal| refused(name, refusal, &file);
-    if !arguments.has(UNCHECKED.name) {
-        encoding::check(&file).map_err(failed)?;
-    }
+    let encoding = Open::new(arguments, &file).map_err(failed)?;
     let find = if arguments.has(ENCODING_KEYS.name) {
         find_encoding
     } else {
         find_content
     };
     each_sought(texts, "key", output, |text| {
-        find(&file, key(text)?.as_bytes()).map_err(failed)
+        find(encoding, key(text)?).map_err(failed)
     })
 }
 
 type Found = Result<Option<Vec<Field>>, Refusal>;
 
-fn find_content(file: &[u8], key: &[u8]) -> Found {
-    let found = encoding::find_content(file, key)?;
-    Ok(found.map(|entry: ContentEntry| {
+fn find_content(encoding: Open<'_>, key: Key) -> Found {
+    let found = encoding.find_content(key)?;
+    Ok(found.map(|entry| {
         let keys: Vec<_> = entry.keys().map(hex).collect();
         vec![
             ("size", entry.size.into()),
@@ -66,9 +60,9 @@ fn find_content(file: &[u8], key: &[u8]) -> Found {
     }))
 }
 
-fn find_encoding(file: &[u8], key: &[u8]) -> Found {
-    let found = encoding::find_encoding(file, key)?;
-    Ok(found.map(|entry: EncodingEntry| {
+fn find_encoding(encoding: Open<'_>, key: Key) -> Found {
+    let found = encoding.find_encoding(key)?;
+    Ok(found.map(|entry| {
         vec![
             ("size", entry.size.into()),
             ("spec_number", entry.spec_number.into()),
@@ -78,11 +72,10 @@ fn find_encoding(file: &[u8], key: &[u8]) -> Found {
 }
 
 /// The key of this text. How many bytes the keys of a file have is told by its own search alone: a
-/// text of so many digits is a key of half as many bytes, and any other is refused as one of 16.
+/// text that is no key of any length is refused as one of the usual length.
 fn key(text: &[u8]) -> Result<Key, Failure> {
-    let length = match text.len() {
-        even @ 2..=32 if even.is_multiple_of(2) => (even / 2) as u8,
-        _ => 16,
-    };
-    worklist::key(text, length).map_err(Failure::unfit)
+    match key_of_any_length(text) {
+        Some(key) => Ok(key),
+        None => worklist::key(text, 16).map_err(Failure::unfit),
+    }
 }

@@ -1,8 +1,6 @@
 //! `dwarnizza encoding spec`: specs of an encoding file by their numbers.
 
-use dwarnizza::encoding;
-
-use super::{read, refused};
+use super::{Open, UNCHECKED, read, refused};
 use crate::answers::{each_sought, file_and_sought};
 use crate::command::{Arguments, Command, decimal};
 use crate::name::shown_bytes;
@@ -12,20 +10,25 @@ use crate::status::Failure;
 pub const COMMAND: Command = Command {
     name: "encoding spec",
     operands: "FILE NUMBER...",
-    summary: "tell the specs of these numbers, from 0",
-    options: &[],
+    summary: "tell the specs of these numbers, from 0, of an encoding file that is checked whole first",
+    options: &[UNCHECKED],
     help: "It prints a line for each number:\n  \
            found NUMBER SPEC\n  \
-           refused NUMBER REFUSAL PLACE, or refused TEXT where it is no number",
+           refused NUMBER REFUSAL PLACE, or refused TEXT where it is no number\n\
+           or one for the file:\n  \
+           refused FILE NUMBER PLACE\n  \
+           failed FILE where it could not be read",
     run,
 };
 
 fn run(arguments: &Arguments, output: &mut Output) -> Result<(), Failure> {
     let (name, texts) = file_and_sought(arguments, "a spec number")?;
     let file = read(name)?;
+    let failed = |refusal| refused(name, refusal, &file);
+    let encoding = Open::new(arguments, &file).map_err(failed)?;
     each_sought(texts, "spec_number", output, |text| {
-        let spec = encoding::spec(&file, number(text)?);
-        let spec = spec.map_err(|refusal| refused(name, refusal, &file))?;
+        let spec = encoding.spec(number(text)?);
+        let spec = spec.map_err(failed)?;
         Ok(Some(vec![("spec", shown_bytes(spec).into())]))
     })
 }

@@ -2,19 +2,17 @@
 
 use std::ffi::{OsStr, OsString};
 
-use dwarnizza::index::{self, Summary};
+use dwarnizza::index::Summary;
 
-use super::archives::{ARCHIVES, Judged};
+use super::archives::{ARCHIVES, Archives, CDN_CONFIG, Judged};
 use super::names::{NAMES, Named};
-use super::{footer_name, summary_fields};
+use super::{IndexFile, summary_fields};
 use crate::command::{Arguments, Choice, Command};
 use crate::files;
-use crate::input::read_index;
-use crate::name::shown;
+use crate::name::{hex, shown};
 use crate::output::{Field, Output};
 use crate::parallel;
 use crate::status::{Failure, Status};
-use crate::words;
 
 const FOLDERS: Choice = Choice {
     name: "-r",
@@ -26,7 +24,7 @@ pub const COMMAND: Command = Command {
     name: "index check",
     operands: "FILE...",
     summary: "check archive indexes whole, on all cores, and say what each holds",
-    options: &[FOLDERS, files::FILES_FROM, NAMES, ARCHIVES],
+    options: &[FOLDERS, files::FILES_FROM, NAMES, ARCHIVES, CDN_CONFIG],
     help: "\
 Lines, in the order of the files:
   ok FILE VERSION W K ENTRIES PAGES
@@ -35,11 +33,13 @@ Lines, in the order of the files:
       it could not be read
 With --archives DIR, after the line of its file:
   inside FILE ENTRIES
-      every entry lies inside the archive DIR/NAME or DIR/NA/ME/NAME of NAME.index
-  outside FILE KEY SIZE OFFSET LENGTH
+      every entry lies inside its archive, DIR/NAME or DIR/NA/ME/NAME; NAME is that of the index
+      without its extension, and with offset width 6 that of the entry's archive in the CDN config
+  outside FILE KEY SIZE OFFSET LENGTH ARCHIVE
       the entry ends after the LENGTH bytes of the archive
-  unjudged FILE
-      there is no such archive, or the entries are those of several (offset width 6)
+  unjudged FILE ARCHIVE
+      the archive could not be read; ARCHIVE is a number where the CDN config has no such archive,
+      and - where the offset width is 6 and there is no --cdn-config
 With --names, at the end:
   misnamed FILE NAME HOLDER
       by its footer it is NAME.index; HOLDER is the file that has that name here, - where none has
@@ -51,7 +51,7 @@ Of several files a count is said at the end, on standard error; with --json it i
 /// What the check of a file gives.
 struct Checked {
     result: Result<Summary, Failure>,
-    /// The MD5 of its footer, where it was read.
+    /// The MD5 of its footer, where it has one.
     footer: Option<String>,
     /// Whether its entries lie inside their archive, where that is asked.
     judged: Option<Judged>,
@@ -68,13 +68,13 @@ struct Counts {
 
 fn run(arguments: &Arguments, output: &mut Output) -> Result<(), Failure> {
     let names = names(arguments)?;
-    let archives = arguments.value(ARCHIVES.name);
+    let archives = Archives::from_arguments(arguments)?;
     let mut counts = Counts::default();
     let mut named = Vec::new();
     let mut done = 0;
     parallel::each(
         &names,
-        |name| check(name, archives),
+        |name| check(name, archives.as_ref()),
         |name, checked| {
             done += 1;
             say(name, &checked, &mut counts, output)?;
@@ -109,9 +109,9 @@ fn names(arguments: &Arguments) -> Result<Vec<OsString>, Failure> {
     Ok(names)
 }
 
-fn check(name: &OsStr, archives: Option<&OsStr>) -> Checked {
-    let bytes = match read_index(name) {
-        Ok(bytes) => bytes,
+fn check(name: &OsStr, archives: Option<&Archives>) -> Checked {
+    let file = match IndexFile::read(name) {
+        Ok(file) => file,
         Err(failure) => {
             return Checked {
                 result: Err(failure),
@@ -120,14 +120,15 @@ fn check(name: &OsStr, archives: Option<&OsStr>) -> Checked {
             };
         }
     };
-    let result = index::check(&bytes);
-    let judged = match (result, archives) {
-        (Ok(summary), Some(folder)) => Some(Judged::new(name, &bytes, summary, folder)),
+    let result = file.check();
+    let judged = match (&result, archives) {
+        (Ok(index), Some(archives)) => Some(archives.judge(name, *index)),
         _ => None,
     };
+    let footer = file.unchecked().name().ok();
     Checked {
-        result: result.map_err(|refusal| words::index(name, refusal, &bytes)),
-        footer: footer_name(&bytes),
+        result: result.map(|index| index.summary()),
+        footer: footer.map(|footer| hex(&footer)),
         judged,
     }
 }
@@ -138,10 +139,10 @@ fn say(
     counts: &mut Counts,
     output: &mut Output,
 ) -> Result<(), Failure> {
-    let mut fields: Vec<Field> = vec![("file", shown(name).into())];
     match &checked.result {
         Ok(summary) => {
             counts.ok += 1;
+            let mut fields: Vec<Field> = vec![("file", shown(name).into())];
             fields.extend(summary_fields(*summary));
             output.answer("ok", &fields)?;
         }
@@ -150,7 +151,7 @@ fn say(
                 Status::Refused => counts.refused += 1,
                 _ => counts.failed += 1,
             }
-            output.failed(fields, failure)?;
+            output.failed_file(name, failure)?;
         }
     }
     if let Some(judged) = &checked.judged {

@@ -1,8 +1,10 @@
 //! `dwarnizza index info`: what an archive index says of itself.
 
-use dwarnizza::index;
+use std::ffi::OsStr;
 
-use super::{Index, footer_name, summary_fields};
+use dwarnizza::{Refusal, UncheckedIndex};
+
+use super::{IndexFile, summary_fields};
 use crate::command::{Arguments, Command};
 use crate::name::{hex, shown};
 use crate::output::{Field, Output};
@@ -25,28 +27,35 @@ Lines:
 
 fn run(arguments: &Arguments, output: &mut Output) -> Result<(), Failure> {
     for name in arguments.some_operands("a file")? {
-        match Index::unchecked(name) {
-            Ok(index) => output.answer("info", &fields(&index))?,
-            Err(failure) => output.failed(vec![("file", shown(name).into())], &failure)?,
+        match info(name) {
+            Ok(fields) => output.answer("info", &fields)?,
+            Err(failure) => output.failed_file(name, &failure)?,
         }
     }
     Ok(())
 }
 
-fn fields(index: &Index) -> Vec<Field> {
+fn info(name: &OsStr) -> Result<Vec<Field>, Failure> {
+    let file = IndexFile::read(name)?;
+    let mut fields = vec![("file", shown(name).into())];
+    let told = unchecked_fields(file.unchecked()).map_err(|refusal| file.refused(refusal))?;
+    fields.extend(told);
+    Ok(fields)
+}
+
+fn unchecked_fields(index: UncheckedIndex<'_>) -> Result<Vec<Field>, Refusal> {
+    let summary = index.summary()?;
     let key = |number: u64| {
-        let entry = index::unchecked_entry(&index.bytes, number).ok().flatten();
-        entry.map(|entry| hex(entry.key)).into()
+        let entry = index.entry(number)?;
+        Ok(entry.map(|entry| hex(entry.key)).into())
     };
-    let mut fields = vec![("file", shown(&index.name).into())];
-    fields.extend(summary_fields(index.summary));
-    fields.push(("length", index.bytes.len().into()));
-    fields.push(("name", footer_name(&index.bytes).into()));
-    fields.push(("first", key(0)));
-    fields.push((
-        "last",
-        key((index.summary.entries as u64).saturating_sub(1)),
-    ));
-    fields.push(("comparisons", index::bound(&index.bytes).ok().into()));
-    fields
+    let mut fields = Vec::from(summary_fields(summary));
+    fields.extend([
+        ("length", index.bytes().len().into()),
+        ("name", hex(&index.name()?).into()),
+        ("first", key(0)?),
+        ("last", key((summary.entries as u64).saturating_sub(1))?),
+        ("comparisons", index.bound()?.into()),
+    ]);
+    Ok(fields)
 }

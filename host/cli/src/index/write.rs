@@ -1,21 +1,22 @@
 //! `dwarnizza index write`: an archive index from a list of its entries.
 
+mod text;
+
 use std::ffi::OsStr;
-use std::io::{BufRead, BufReader, Read};
 use std::path::Path;
 
-use dwarnizza::index::{self, Settings};
-use dwarnizza::refusal;
+use dwarnizza::index::Settings;
+use dwarnizza::{Index, Reason, Refusal};
 
-use super::footer_name;
+use self::text::{Text, with_line};
+use super::IndexFile;
 use super::list::RAW;
-use crate::command::{Arguments, Choice, Command, decimal};
-use crate::input::{MOST_OF_AN_INDEX, open, read, read_index, refusal_without_place};
-use crate::name::{shown, shown_bytes};
+use crate::command::{Arguments, Choice, Command};
+use crate::input::read;
+use crate::name::{hex, shown};
 use crate::output::Output;
 use crate::replace::{FORCE, OUT, write_file};
 use crate::status::Failure;
-use crate::worklist::key;
 
 const VERSION: Choice = Choice {
     name: "--index-version",
@@ -47,15 +48,20 @@ no first line, and the three settings are given.
 Line:
   written FILE LENGTH NAME
       NAME is the MD5 of the footer, which names an archive. It is said where the file had, or has,
-      another name.",
+      another name.
+  refused LIST NUMBER PLACE
+      NUMBER and PLACE are - where the list is no text of a list
+  failed FILE
+      the list could not be read, or the file not be written",
     run,
 };
 
-/// More entries than this are refusal 4.
-const MOST_ENTRIES: u64 = 8_388_608;
-
-/// The longest line that is read: no line of a list has so many characters.
-const MOST_OF_A_LINE: u64 = 1000;
+/// Settings that are right, beside which one other is judged.
+const RIGHT: Settings = Settings {
+    version: 1,
+    offset_width: 4,
+    key_length: 16,
+};
 
 fn run(arguments: &Arguments, output: &mut Output) -> Result<(), Failure> {
     let list = arguments.one_operand("a list")?;
@@ -63,13 +69,19 @@ fn run(arguments: &Arguments, output: &mut Output) -> Result<(), Failure> {
         return Err(Failure::usage("-o FILE is missing"));
     };
     let (settings, bytes) = if arguments.has(RAW.name) {
-        (raw_settings(arguments)?, read(list, MOST_OF_AN_INDEX)?)
+        (raw_settings(arguments)?, read(list)?)
     } else {
         no_settings(arguments)?;
         Text::open(list)?.entries()?
     };
-    let file = written(list, settings, &bytes, arguments.has(RAW.name))?;
-    let before = read_index(out).ok().and_then(|index| footer_name(&index));
+    let file = Index::write(settings, &bytes).map_err(|refusal| {
+        let failure = refused(list, refusal, settings, bytes.len());
+        match arguments.has(RAW.name) {
+            true => failure,
+            false => with_line(failure),
+        }
+    })?;
+    let before = name_of(out);
     write_file(out, &file, arguments.has(FORCE.name))?;
     say(out, &file, before, output)
 }
@@ -99,45 +111,57 @@ fn no_settings(arguments: &Arguments) -> Result<(), Failure> {
     }
 }
 
-/// The index of these entries.
-fn written(name: &OsStr, settings: Settings, list: &[u8], raw: bool) -> Result<Vec<u8>, Failure> {
-    let refused = |refused: dwarnizza::Refusal| {
-        let help = match refused.number {
-            refusal::SETTINGS => settings_help(settings),
-            refusal::INDEX_ORDER if !raw => {
-                format!("line {} of the list has this key", refused.place + 2)
-            }
-            refusal::LIST_LENGTH => {
-                format!("it has {} bytes: cut, or of other settings?", list.len())
-            }
-            _ => String::new(),
-        };
-        Failure::refused(name, refused, &help)
-    };
-    let length = index::written_length(settings, list).map_err(refused)?;
-    let mut file = vec![0; length];
-    index::write(settings, list, &mut file).map_err(refused)?;
-    Ok(file)
+/// The name of the index that stands in a file, where one does.
+fn name_of(file: &OsStr) -> Option<String> {
+    let file = IndexFile::read(file).ok()?;
+    let name = file.unchecked().name().ok()?;
+    Some(hex(&name))
 }
 
-/// Which setting is wrong.
+/// The library refused a list of so many bytes.
+fn refused(name: &OsStr, refusal: Refusal, settings: Settings, length: usize) -> Failure {
+    let help = match refusal.reason {
+        Reason::Settings => settings_help(settings),
+        Reason::ListLength => format!("it has {length} bytes: cut, or of other settings?"),
+        _ => String::new(),
+    };
+    Failure::refused(name, refusal, &help)
+}
+
+/// Which settings are wrong, each judged by the library beside right ones.
 fn settings_help(settings: Settings) -> String {
-    let Settings {
-        version,
-        offset_width,
-        key_length,
-    } = settings;
-    let mut wrong = Vec::new();
-    if version > 1 {
-        wrong.push(format!("the version is 0 or 1, not {version}"));
-    }
-    if !(4..=6).contains(&offset_width) {
-        wrong.push(format!("the offset width is 4, 5 or 6, not {offset_width}"));
-    }
-    if !(1..=16).contains(&key_length) {
-        wrong.push(format!("the key length is 1 to 16, not {key_length}"));
-    }
-    wrong.join("; ")
+    type With = fn(u8) -> Settings;
+    let judged: [(&str, u8, With); 3] = [
+        ("version", settings.version, |version| Settings {
+            version,
+            ..RIGHT
+        }),
+        ("offset width", settings.offset_width, |offset_width| {
+            Settings {
+                offset_width,
+                ..RIGHT
+            }
+        }),
+        ("key length", settings.key_length, |key_length| Settings {
+            key_length,
+            ..RIGHT
+        }),
+    ];
+    let wrong = judged
+        .iter()
+        .filter(|(_, value, with)| !is_right(with(*value)));
+    let words = wrong.map(|(name, value, with)| {
+        let right: Vec<u8> = (0..=u8::MAX)
+            .filter(|&value| is_right(with(value)))
+            .collect();
+        let (first, last) = (right[0], right[right.len() - 1]);
+        format!("the {name} is {first} to {last}, not {value}")
+    });
+    words.collect::<Vec<_>>().join("; ")
+}
+
+fn is_right(settings: Settings) -> bool {
+    Index::written_length(settings, &[]).is_ok()
 }
 
 /// Says what was written, and where its name is another.
@@ -147,7 +171,7 @@ fn say(
     before: Option<String>,
     output: &mut Output,
 ) -> Result<(), Failure> {
-    let name = footer_name(file).expect("an index has a footer");
+    let name = hex(&Index::unchecked(file).name().expect("it was written so"));
     output.answer(
         "written",
         &[
@@ -171,146 +195,4 @@ fn say(
         ));
     }
     Ok(())
-}
-
-/// A list of text, line by line.
-struct Text {
-    name: String,
-    input: BufReader<Box<dyn Read>>,
-    /// The number of the line that was read last.
-    line: u64,
-}
-
-impl Text {
-    fn open(name: &OsStr) -> Result<Self, Failure> {
-        Ok(Self {
-            name: shown(name),
-            input: BufReader::with_capacity(1 << 16, open(name)?),
-            line: 0,
-        })
-    }
-
-    /// The settings and the entries' bytes.
-    fn entries(mut self) -> Result<(Settings, Vec<u8>), Failure> {
-        let mut line = Vec::new();
-        if !self.next(&mut line)? {
-            return Err(self.refused("the list is empty; its first line has the settings"));
-        }
-        let (settings, count) = first_line(&line).map_err(|why| self.refused(&why))?;
-        if count > MOST_ENTRIES {
-            let refusal = refusal_without_place(refusal::ENTRY_COUNT);
-            return Err(Failure::refused(OsStr::new(&self.name), refusal, ""));
-        }
-        let mut list = Vec::new();
-        for found in 0..count {
-            if !self.next(&mut line)? {
-                return Err(Failure::unfit(format!(
-                    "{}: the list is cut: its first line says {count} entries, and it has {found}",
-                    self.name
-                )));
-            }
-            let mut room = [0; 64];
-            let length = entry(settings, &line, &mut room).map_err(|why| self.refused(&why))?;
-            list.extend(&room[..length]);
-        }
-        if self.next(&mut line)? {
-            return Err(self.refused(&format!(
-                "the first line says {count} entries, and here is one more"
-            )));
-        }
-        Ok((settings, list))
-    }
-
-    /// Reads a line, without its line feed; false at the end.
-    fn next(&mut self, line: &mut Vec<u8>) -> Result<bool, Failure> {
-        line.clear();
-        self.line += 1;
-        let read = self
-            .input
-            .by_ref()
-            .take(MOST_OF_A_LINE)
-            .read_until(b'\n', line);
-        read.map_err(|error| Failure::reading(OsStr::new(&self.name), &error))?;
-        if line.is_empty() {
-            return Ok(false);
-        }
-        if line.pop() != Some(b'\n') {
-            return Err(
-                self.refused("it does not end in a line feed: the list is cut, or is no list")
-            );
-        }
-        Ok(true)
-    }
-
-    fn refused(&self, why: &str) -> Failure {
-        Failure::unfit(format!("{}: line {}: {why}", self.name, self.line))
-    }
-}
-
-/// The settings and the entry count.
-fn first_line(line: &[u8]) -> Result<(Settings, u64), String> {
-    let wanted = || {
-        let found = shown_bytes(&line[..line.len().min(60)]);
-        format!(
-            "a list begins with `index`, `version=`, `offset=`, `key=` and `entries=`, tabs between, not with {found}"
-        )
-    };
-    let fields: Vec<&[u8]> = line.split(|&byte| byte == b'\t').collect();
-    let [b"index", version, offset, key, entries] = fields[..] else {
-        return Err(wanted());
-    };
-    let number = |field: &[u8], name: &str| {
-        let digits = field.strip_prefix(name.as_bytes()).and_then(decimal);
-        digits.ok_or_else(wanted)
-    };
-    let setting = |field: &[u8], name: &str| {
-        let number = number(field, name)?;
-        u8::try_from(number).map_err(|_| format!("{name}{number} is no setting"))
-    };
-    let settings = Settings {
-        version: setting(version, "version=")?,
-        offset_width: setting(offset, "offset=")?,
-        key_length: setting(key, "key=")?,
-    };
-    match settings_help(settings) {
-        wrong if wrong.is_empty() => Ok((settings, number(entries, "entries=")?)),
-        wrong => Err(format!("refused 11: {wrong}")),
-    }
-}
-
-/// Puts the bytes of an entry, and tells how many.
-fn entry(settings: Settings, line: &[u8], room: &mut [u8]) -> Result<usize, String> {
-    let fields: Vec<&[u8]> = line.split(|&byte| byte == b'\t').collect();
-    let [text, size, archive, offset] = fields[..] else {
-        let found = fields.len();
-        return Err(format!(
-            "an entry is key, size, archive and offset with tabs between, and here are {found} fields"
-        ));
-    };
-    let key = key(text, settings.key_length)?;
-    let number = |text: &[u8], what: &str| {
-        decimal(text).ok_or_else(|| format!("\"{}\" is no {what}", shown_bytes(text)))
-    };
-    let narrow = |number: u64, what: &str| {
-        u32::try_from(number).map_err(|_| format!("{number} is above any {what}"))
-    };
-    let size = narrow(number(size, "size")?, "size")?;
-    let archive = match (archive, settings.offset_width) {
-        (b"-", 6) => return Err("offset width 6 wants an archive number, not -".to_string()),
-        (b"-", _) => 0,
-        (text, 6) => narrow(number(text, "archive number")?, "archive number")?,
-        (text, width) => {
-            return Err(format!(
-                "offset width {width} has - for the archive, not \"{}\"",
-                shown_bytes(text)
-            ));
-        }
-    };
-    let offset = number(offset, "offset")?;
-    index::put_entry(settings, key.as_bytes(), size, archive, offset, room).map_err(|refused| {
-        format!(
-            "{refused}: archive and offset do not fit offset width {}",
-            settings.offset_width
-        )
-    })
 }

@@ -1,6 +1,7 @@
 //! `dwarnizza root find`: file numbers in a root file.
 
-use dwarnizza::root::{self, Record};
+use dwarnizza::Root;
+use dwarnizza::root::Record;
 
 use super::{read, refused};
 use crate::answers::{each_sought, file_and_sought};
@@ -19,7 +20,10 @@ pub const COMMAND: Command = Command {
     help: "It prints a line for each file number:\n  \
            found NUMBER CONTENT-KEY PLACE, which is where the key stands in the file\n  \
            absent NUMBER\n  \
-           refused NUMBER REFUSAL PLACE, or refused TEXT where it is no file number",
+           refused TEXT where it is no file number\n\
+           or one for the file:\n  \
+           refused FILE NUMBER PLACE\n  \
+           failed FILE where it could not be read",
     run,
 };
 
@@ -27,11 +31,10 @@ fn run(arguments: &Arguments, output: &mut Output) -> Result<(), Failure> {
     let Masks { locale, unwanted } = Masks::of(arguments)?;
     let (name, texts) = file_and_sought(arguments, "a file number")?;
     let file = read(name)?;
+    let root = Root::check(&file).map_err(|refusal| refused(name, refusal, &file))?;
     each_sought(texts, "file_number", output, |text| {
         let number = file_number(text).map_err(Failure::unfit)?;
-        let record = root::find(&file, number, locale, unwanted);
-        let record = record.map_err(|refusal| refused(name, refusal, &file))?;
-        Ok(record.map(fields))
+        Ok(root.find(number, locale, unwanted).map(fields))
     })
 }
 

@@ -2,8 +2,8 @@
 #![allow(dead_code)] // not every test needs every helper
 
 use std::ffi::OsStr;
-use std::fs;
-use std::io::Write;
+use std::fs::{self, File};
+use std::io::{Seek, SeekFrom, Write};
 use std::path::{Path, PathBuf};
 use std::process::{Command, Output, Stdio};
 
@@ -69,8 +69,25 @@ pub fn run_in_2_gb<S: AsRef<OsStr>>(folder: &Path, arguments: impl IntoIterator<
     ran(command, folder, b"")
 }
 
+/// Runs the program with a file as standard input, of which so many bytes were read before.
+pub fn run_from_file<S: AsRef<OsStr>>(
+    folder: &Path,
+    file: &str,
+    read: u64,
+    arguments: impl IntoIterator<Item = S>,
+) -> Run {
+    let mut input = File::open(folder.join(file)).expect("the file is there");
+    input.seek(SeekFrom::Start(read)).expect("it is a file");
+    let mut command = dwarnizza(arguments);
+    let output = command.current_dir(folder).stdin(input).output();
+    said(output.expect("the program runs"))
+}
+
 fn ran(command: Command, folder: &Path, input: &[u8]) -> Run {
-    let output = output(command, folder, input);
+    said(output(command, folder, input))
+}
+
+fn said(output: Output) -> Run {
     let text = |bytes| String::from_utf8(bytes).expect("the program writes text");
     Run {
         status: output.status.code().expect("the program ends by itself"),
@@ -103,6 +120,13 @@ pub fn put(folder: &Path, name: impl AsRef<Path>, bytes: impl AsRef<[u8]>) {
     fs::write(path, bytes).expect("the file can be written");
 }
 
+/// A file of a test has these bytes.
+#[track_caller]
+pub fn holds(folder: &Path, name: &str, bytes: &[u8]) {
+    let found = fs::read(folder.join(name)).expect("the file is there");
+    assert!(found == bytes, "{name} is another file");
+}
+
 /// The names in a folder, in order.
 pub fn held(folder: &Path) -> Vec<String> {
     let entries = fs::read_dir(folder).expect("the folder can be read");
@@ -112,6 +136,20 @@ pub fn held(folder: &Path) -> Vec<String> {
         .collect();
     names.sort();
     names
+}
+
+/// Copies a folder and what is below it.
+pub fn copy_tree(from: &Path, to: &Path) {
+    fs::create_dir_all(to).expect("the folder can be made");
+    for entry in fs::read_dir(from).expect("the folder can be read") {
+        let path = entry.expect("it can be read").path();
+        let copy = to.join(path.file_name().expect("it has a name"));
+        if path.is_dir() {
+            copy_tree(&path, &copy);
+        } else {
+            fs::copy(&path, &copy).expect("the file can be copied");
+        }
+    }
 }
 
 /// The repository's folder sample/.
