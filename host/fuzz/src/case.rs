@@ -1,0 +1,46 @@
+//! One case: a file of one kind, and calls with it.
+
+mod chain;
+mod encoding;
+mod envelope;
+mod index;
+mod key_text;
+mod list;
+mod md5;
+mod root;
+
+use crate::compare::{Comparison, Difference};
+use crate::random::Random;
+
+/// What a case ends with: the first difference, if there is one.
+type Compared = Result<(), Box<Difference>>;
+
+/// Makes one kind of case.
+type Kind = fn(&mut Random, &mut Comparison) -> Compared;
+
+/// Each kind, and how many of a hundred cases are of it.
+const KINDS: [(usize, Kind); 9] = [
+    (24, index::compare),
+    (12, list::compare_written),
+    (6, list::compare_entry),
+    (10, envelope::compare),
+    (14, encoding::compare),
+    (12, root::compare),
+    (12, chain::compare),
+    (5, md5::compare),
+    (5, key_text::compare),
+];
+
+/// Makes the case of this number.
+pub fn compare(seed: u64, case: u64, comparison: &mut Comparison) -> Compared {
+    let mut random = Random::of_case(seed, case);
+    comparison.begin(&mut random);
+    let mut number = random.within(0..=99);
+    for (share, kind) in KINDS {
+        if number < share {
+            return kind(&mut random, comparison);
+        }
+        number -= share;
+    }
+    unreachable!("the shares are a hundred")
+}
