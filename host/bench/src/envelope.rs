@@ -1,87 +1,97 @@
-//! BLTE envelopes: opening them.
+//! BLTE envelopes.
 
-use std::hint::black_box;
+use fuzz::export::{ANSWERED, ENVELOPE_KEY, ENVELOPE_LENGTH, ENVELOPE_OPEN, Given};
+use second::envelope::{PLAIN, envelope_key, with_table, without_table};
 
-use second::envelope::{with_table, without_table};
+use crate::measure::mixed;
+use crate::table::{Call, Table};
 
-use crate::index::{repeat, timed};
-use crate::measure::{BATCH, ROUNDS};
+/// How many chunks the envelopes have, and how many bytes of content each chunk.
+const CHUNKS: [(usize, usize); 3] = [(4, 16 << 10), (16, 256 << 10), (256, 256 << 10)];
 
-/// How many bytes the content has.
-const CONTENT: usize = 64 << 20;
-
-/// How many bytes of content a chunk of a table has.
-const CHUNK: usize = 256 << 10;
-
-/// Prints the table.
-pub fn run() {
-    println!(
-        "Opening envelopes of 64 MiB of content: the median of {ROUNDS} rounds in which all take \
-         turns, {} ms\nor more each time.",
-        BATCH.as_millis()
-    );
-    println!(
-        "Speeds are in MB/s over the file (1 MB is 1,000,000 bytes). MD5 is the library's over the \
-         same file,\nin one call. All read one buffer, and have read it before."
-    );
-    println!();
-    println!(
-        "{:<26}{:>12}{:>9}{:>8}{:>8}{:>13}{:>16}",
-        "", "library ms", "library", "MD5", "second", "library/MD5", "library/second"
-    );
-    let content = content();
-    let plain = |content: &[u8]| [b"N", content].concat();
-    let chunks: Vec<_> = content.chunks(CHUNK).map(plain).collect();
-    let label = format!("{} chunks of 256 KiB", chunks.len());
-    print_row(&label, &with_table(&chunks), &content);
-    print_row(
-        "one chunk, no table",
-        &without_table(&plain(&content)),
-        &content,
-    );
+/// An envelope, and the parts that are hashed to open it: what its key is of, and the chunks.
+struct File {
+    bytes: Vec<u8>,
+    key: [u8; 16],
+    content: usize,
+    chunks: usize,
+    header: usize,
+    chunk: usize,
 }
 
-fn print_row(label: &str, file: &[u8], content: &[u8]) {
-    let [library, md5, second] = open_seconds(file, content);
-    let speed = |seconds: f64| file.len() as f64 / seconds / 1e6;
-    println!(
-        "{label:<26}{:>12.2}{:>9.1}{:>8.1}{:>8.1}{:>13.2}{:>16.2}",
-        library * 1e3,
-        speed(library),
-        speed(md5),
-        speed(second),
-        md5 / library,
-        second / library
-    );
+impl File {
+    /// So many chunks of so many bytes, with a table.
+    fn new((chunks, length): (usize, usize)) -> Self {
+        let parts: Vec<_> = (0..chunks).map(|number| chunk(number, length)).collect();
+        let bytes = with_table(&parts);
+        let header = bytes.len() - chunks * (length + 1);
+        Self::of(bytes, chunks, header, length)
+    }
+
+    /// As much content in one chunk without a table. The key is of the whole file.
+    fn without_table((chunks, length): (usize, usize)) -> Self {
+        let bytes = without_table(&chunk(0, chunks * length));
+        let whole = bytes.len();
+        Self::of(bytes, 1, whole, chunks * length)
+    }
+
+    fn of(bytes: Vec<u8>, chunks: usize, header: usize, content: usize) -> Self {
+        Self {
+            key: envelope_key(&bytes).expect("the envelope is good"),
+            bytes,
+            content: chunks * content,
+            chunks,
+            header,
+            chunk: content + 1,
+        }
+    }
+
+    fn hashed(&self) -> Vec<&[u8]> {
+        let (keyed, chunks) = self.bytes.split_at(self.header);
+        let mut hashed = vec![keyed];
+        hashed.extend(chunks.chunks(self.chunk));
+        hashed
+    }
+
+    /// Opening it.
+    fn call(&self, kind: &'static str) -> Call<'_> {
+        Call {
+            export: &ENVELOPE_OPEN,
+            kind,
+            size: self.content,
+            unit: "B",
+            given: Box::new(|_| Given::new([&self.bytes, &self.key], [])),
+            result: ANSWERED,
+            output: self.content,
+            hashed: self.hashed(),
+        }
+    }
 }
 
-/// The seconds of opening by the library, of the MD5 of the file, and of opening by the second
-/// program.
-fn open_seconds(file: &[u8], content: &[u8]) -> [f64; 3] {
-    let key = dwarnizza::envelope::envelope_key(file).expect("the envelope is good");
-    let library = |file: &[u8], output: &mut [u8]| {
-        dwarnizza::envelope::open(file, &key, output).expect("the envelope is good")
-    };
-    let second = |file: &[u8], output: &mut [u8]| {
-        second::envelope::open_into(file, &key, output).expect("the envelope is good")
-    };
-    let (mut by_library, mut by_second) = (vec![0; content.len()], vec![0; content.len()]);
-    library(file, &mut by_library);
-    second(file, &mut by_second);
-    assert!(
-        by_library == content && by_second == content,
-        "the outputs differ"
-    );
-    timed([
-        Box::new(|times| repeat(times, || library(black_box(file), &mut by_library))),
-        Box::new(|times| repeat(times, || dwarnizza::md5(black_box(file)))),
-        Box::new(|times| repeat(times, || second(black_box(file), &mut by_second))),
-    ])
+/// A plain chunk of content spread by a fixed rule.
+fn chunk(number: usize, length: usize) -> Vec<u8> {
+    let words = (0..length / 8).map(|word| mixed((number << 32 | word) as u64));
+    let content = words.flat_map(u64::to_be_bytes);
+    [PLAIN].into_iter().chain(content).collect()
 }
 
-/// Bytes spread by a fixed rule.
-fn content() -> Vec<u8> {
-    (0..CONTENT as u64 / 8)
-        .flat_map(|number| number.wrapping_mul(0x9e37_79b9_7f4a_7c15).to_be_bytes())
-        .collect()
+/// Prints the lines.
+pub fn measure(table: &mut Table) {
+    let files = CHUNKS.map(File::new);
+    table.calls(files.iter().map(|file| file.call(", with a table")));
+    let single = CHUNKS.map(File::without_table);
+    table.calls(single.iter().map(|file| file.call(", one chunk")));
+    table.calls(files.iter().map(|file| Call {
+        export: &ENVELOPE_LENGTH,
+        output: 0,
+        ..file.call("")
+    }));
+    table.calls(files.iter().map(|file| Call {
+        export: &ENVELOPE_KEY,
+        size: file.chunks,
+        unit: "chunks",
+        output: 16,
+        hashed: vec![&file.bytes[..file.header]],
+        ..file.call("")
+    }));
 }

@@ -1,11 +1,15 @@
-//! Archive indexes: the full check, the list and the writer.
+//! Archive indexes of K 16 and W 4.
 
-use std::fmt::{self, Debug};
-use std::hint::black_box;
+use fuzz::export::{
+    ABSENT, ANSWERED, Export, Given, INDEX_BOUND, INDEX_CHECK, INDEX_ENTRY, INDEX_FOOTER,
+    INDEX_LIST, INDEX_LISTING, INDEX_LOOKUP, INDEX_LOOSE, INDEX_PAGE, INDEX_SETTINGS, INDEX_WRITE,
+    INDEX_WRITTEN_LENGTH,
+};
+use second::index::{PAGE, Settings, listing, write};
 
-use second::index::{PAGE, Settings};
-
-use crate::measure::{BATCH, Contender, ROUNDS, seconds};
+use crate::keys::{Key, Sought, both, by_key};
+use crate::measure::mixed;
+use crate::table::{Call, Table};
 
 /// The settings of all indexes here.
 pub const SETTINGS: Settings = Settings {
@@ -14,173 +18,155 @@ pub const SETTINGS: Settings = Settings {
     key_length: 16,
 };
 
-/// The same for the library.
-const LIBRARY_SETTINGS: dwarnizza::index::Settings = dwarnizza::index::Settings {
-    version: SETTINGS.version,
-    offset_width: SETTINGS.offset_width,
-    key_length: SETTINGS.key_length,
-};
+/// How many entries the indexes have.
+const ENTRIES: [usize; 3] = [1700, 50_000, 1_000_000];
 
-/// How many entries the indexes have, and the same as the table shows it.
-const ENTRIES: [(usize, &str); 2] = [(50_000, "50,000"), (1_000_000, "1,000,000")];
+/// How many entries the indexes have whose listing is made.
+const LISTED: [usize; 3] = [17, 170, 2550];
 
-/// What is timed.
-#[derive(Clone, Copy)]
-enum Task {
-    Check,
-    List,
-    Write,
+/// How many entries the indexes have that are searched. The last has the most that may be.
+pub const SEARCHED: [usize; 3] = [50_000, 1_000_000, 8_388_608];
+
+/// How many bytes of a footer are hashed.
+const FOOTER_HASHED: usize = 20;
+
+/// An index and its list.
+pub struct File {
+    pub entries: usize,
+    pub list: Vec<u8>,
+    pub index: Vec<u8>,
 }
 
-const TASKS: [Task; 3] = [Task::Check, Task::List, Task::Write];
-
-impl fmt::Display for Task {
-    fn fmt(&self, f: &mut fmt::Formatter<'_>) -> fmt::Result {
-        f.write_str(match self {
-            Task::Check => "check",
-            Task::List => "list",
-            Task::Write => "write",
-        })
+impl File {
+    /// So many entries, whose keys, sizes and locations are spread by a fixed rule: the first eight
+    /// bytes of the keys are evenly apart.
+    pub fn new(entries: usize) -> Self {
+        let mut list = Vec::with_capacity(entries * SETTINGS.entry_len());
+        for number in 0..entries {
+            list.extend(key(number, entries));
+            list.extend(mixed(number as u64).to_be_bytes());
+        }
+        let mut index = vec![0; SETTINGS.file_len(entries)];
+        write(SETTINGS, &list, &mut index).expect("the list may be written");
+        Self {
+            entries,
+            list,
+            index,
+        }
     }
-}
 
-/// Prints the table.
-pub fn run() {
-    println!(
-        "Archive indexes of K 16 and W 4: the median of {ROUNDS} rounds in which all take turns, \
-         {} ms or more\neach time.",
-        BATCH.as_millis()
-    );
-    println!(
-        "Speeds are in MB/s over the pages (1 MB is 1,000,000 bytes). MD5 is the library's over \
-         the same\npages, one call for each page. All read one buffer, and have read it before."
-    );
-    println!();
-    println!(
-        "{:<18}{:>7}{:>12}{:>9}{:>8}{:>8}{:>13}{:>16}",
-        "", "pages", "library ms", "library", "MD5", "second", "library/MD5", "library/second"
-    );
-    for task in TASKS {
-        for (entries, shown) in ENTRIES {
-            print_row(task, entries, shown);
+    /// The pages, each by itself.
+    fn pages(&self) -> Vec<&[u8]> {
+        let pages = SETTINGS.pages(self.entries) * PAGE;
+        self.index[..pages].chunks_exact(PAGE).collect()
+    }
+
+    /// The bytes of the footer that are hashed.
+    fn footer(&self) -> &[u8] {
+        &self.index[self.index.len() - FOOTER_HASHED..]
+    }
+
+    /// A call that is given the index alone.
+    fn call<'a>(&'a self, export: &'static Export, hashed: Vec<&'a [u8]>) -> Call<'a> {
+        Call {
+            export,
+            kind: "",
+            size: self.entries,
+            unit: "entries",
+            given: Box::new(|_| Given::new([&self.index], [])),
+            result: ANSWERED,
+            output: 0,
+            hashed,
+        }
+    }
+
+    /// A call that is given a number of this range too.
+    fn call_by_number(&self, export: &'static Export, range: usize) -> Call<'_> {
+        let range = range as u64;
+        Call {
+            given: Box::new(move |number| Given::new([&self.index], [mixed(number) % range])),
+            ..self.call(export, vec![self.footer()])
+        }
+    }
+
+    /// A call that is given the list and the settings.
+    fn call_of_list<'a>(&'a self, export: &'static Export, hashed: Vec<&'a [u8]>) -> Call<'a> {
+        let settings = [SETTINGS.version, SETTINGS.offset_width, SETTINGS.key_length];
+        Call {
+            given: Box::new(move |_| Given::new([&self.list], settings.map(u64::from))),
+            ..self.call(export, hashed)
         }
     }
 }
 
-fn print_row(task: Task, entries: usize, shown: &str) {
-    let list = list(entries);
-    let index = index(&list);
-    let pages = &index[..SETTINGS.pages(entries) * PAGE];
-    let [library, md5, second] = match task {
-        Task::Check => check_seconds(&index, pages),
-        Task::List => {
-            let library = |output: &mut [u8]| dwarnizza::index::list(black_box(&index), output);
-            let second = |output: &mut [u8]| second::index::list(black_box(&index), output);
-            fill_seconds(library, second, &list, pages)
-        }
-        Task::Write => {
-            let settings = LIBRARY_SETTINGS;
-            let library =
-                |output: &mut [u8]| dwarnizza::index::write(settings, black_box(&list), output);
-            let second =
-                |output: &mut [u8]| second::index::write(SETTINGS, black_box(&list), output);
-            fill_seconds(library, second, &index, pages)
-        }
-    };
-    let speed = |seconds: f64| pages.len() as f64 / seconds / 1e6;
-    println!(
-        "{:<18}{:>7}{:>12.2}{:>9.1}{:>8.1}{:>8.1}{:>13.2}{:>16.2}",
-        format!("{task} {shown}"),
-        pages.len() / PAGE,
-        library * 1e3,
-        speed(library),
-        speed(md5),
-        speed(second),
-        md5 / library,
-        second / library
-    );
+/// The key of an entry of so many.
+pub fn key(number: usize, entries: usize) -> Key {
+    let high = number as u64 * (u64::MAX / entries as u64);
+    both(high, mixed(number as u64))
 }
 
-/// The seconds of the full check by the library, of the MD5 of all pages, and of the full check by
-/// the second program.
-fn check_seconds(index: &[u8], pages: &[u8]) -> [f64; 3] {
-    let library = |index: &[u8]| dwarnizza::index::check(index).expect("the index is good");
-    let second = |index: &[u8]| {
-        second::index::check(index)
-            .expect("the index is good")
-            .entries()
-    };
-    assert_eq!(library(index).entries, second(index));
-    timed([
-        Box::new(|times| repeat(times, || library(black_box(index)))),
-        Box::new(|times| repeat(times, || md5_of_each(black_box(pages)))),
-        Box::new(|times| repeat(times, || second(black_box(index)))),
-    ])
+/// Prints the lines.
+pub fn measure(table: &mut Table) {
+    let files = ENTRIES.map(File::new);
+    let check = |file| File::call(file, &INDEX_CHECK, file.pages());
+    table.calls(files.iter().map(check));
+    by_footer(table, &files);
+    lists(table, &files);
+    listings(table);
+    lookups(table);
 }
 
-/// As `check_seconds`, for what fills an output with these bytes.
-fn fill_seconds<E: Debug, F: Debug>(
-    library: impl Fn(&mut [u8]) -> Result<usize, E>,
-    second: impl Fn(&mut [u8]) -> Result<usize, F>,
-    filled: &[u8],
-    pages: &[u8],
-) -> [f64; 3] {
-    let (mut by_library, mut by_second) = (vec![0; filled.len()], vec![0; filled.len()]);
-    let library = |output: &mut [u8]| library(output).expect("the index is good");
-    let second = |output: &mut [u8]| second(output).expect("the index is good");
-    library(&mut by_library);
-    second(&mut by_second);
-    assert!(
-        by_library == filled && by_second == filled,
-        "the outputs differ"
-    );
-    timed([
-        Box::new(|times| repeat(times, || library(black_box(&mut by_library)))),
-        Box::new(|times| repeat(times, || md5_of_each(black_box(pages)))),
-        Box::new(|times| repeat(times, || second(black_box(&mut by_second)))),
-    ])
-}
-
-/// As `seconds`, for so many contenders.
-pub fn timed<const N: usize>(mut contenders: [Contender; N]) -> [f64; N] {
-    seconds(&mut contenders)
-        .try_into()
-        .expect("each contender has its time")
-}
-
-/// Does a task so many times.
-pub fn repeat<T>(times: u64, mut task: impl FnMut() -> T) {
-    for _ in 0..times {
-        black_box(task());
+/// The calls that judge the footer and the length alone.
+fn by_footer(table: &mut Table, files: &[File]) {
+    for export in [&INDEX_SETTINGS, &INDEX_FOOTER, &INDEX_BOUND] {
+        let call = |file| File::call(file, export, vec![file.footer()]);
+        table.calls(files.iter().map(call));
     }
+    // The offset width is that of an archive index, so that nothing is hashed.
+    table.calls(files.iter().map(|file| Call {
+        result: ABSENT,
+        ..file.call(&INDEX_LOOSE, Vec::new())
+    }));
+    let entry = |file| File::call_by_number(file, &INDEX_ENTRY, file.entries);
+    table.calls(files.iter().map(entry));
+    let page = |file| File::call_by_number(file, &INDEX_PAGE, SETTINGS.pages(file.entries));
+    table.calls(files.iter().map(page));
 }
 
-/// The MD5 of each page by the library, all taken together so that none is left out.
-pub fn md5_of_each(pages: &[u8]) -> u8 {
-    let (pages, _) = pages.as_chunks::<PAGE>();
-    pages.iter().fold(0, |all, page| {
-        all ^ dwarnizza::md5(page).expect("a page is below the limit")[0]
-    })
+/// The list of an index, and the index of a list.
+fn lists(table: &mut Table, files: &[File]) {
+    table.calls(files.iter().map(|file| Call {
+        output: file.list.len(),
+        ..file.call(&INDEX_LIST, file.pages())
+    }));
+    table.calls(files.iter().map(|file| Call {
+        output: file.index.len(),
+        ..file.call_of_list(&INDEX_WRITE, file.pages())
+    }));
+    let length = |file| File::call_of_list(file, &INDEX_WRITTEN_LENGTH, Vec::new());
+    table.calls(files.iter().map(length));
 }
 
-/// So many entries, whose keys, sizes and locations are spread by a fixed rule: the first eight
-/// bytes of the keys are evenly apart.
-pub fn list(entries: usize) -> Vec<u8> {
-    let step = u64::MAX / entries as u64;
-    let mut list = Vec::with_capacity(entries * SETTINGS.entry_len());
-    for number in 0..entries as u64 {
-        let mixed = number.wrapping_mul(0x9e37_79b9_7f4a_7c15);
-        list.extend((number * step).to_be_bytes());
-        list.extend(mixed.to_be_bytes());
-        list.extend(mixed.rotate_left(32).to_be_bytes());
+fn listings(table: &mut Table) {
+    let files = LISTED.map(File::new);
+    table.calls(files.iter().map(|file| {
+        let text = listing(&file.index).expect("the index is good");
+        Call {
+            output: text.len(),
+            ..file.call(&INDEX_LISTING, file.pages())
+        }
+    }));
+}
+
+fn lookups(table: &mut Table) {
+    let files = SEARCHED.map(File::new);
+    for sought in [Sought::Found, Sought::Absent] {
+        let keys = SEARCHED.map(|entries| sought.keys(entries, key));
+        table.calls(files.iter().zip(&keys).map(|(file, keys)| Call {
+            kind: sought.kind(),
+            given: by_key(&file.index, keys),
+            result: sought.result(),
+            ..file.call(&INDEX_LOOKUP, vec![file.footer()])
+        }));
     }
-    list
-}
-
-/// The index of a list.
-pub fn index(list: &[u8]) -> Vec<u8> {
-    let entries = list.len() / SETTINGS.entry_len();
-    let mut index = vec![0; SETTINGS.file_len(entries)];
-    second::index::write(SETTINGS, list, &mut index).expect("the list may be written");
-    index
 }

@@ -1,43 +1,64 @@
-//! Benchmarks: the library beside OpenSSL and the second program, all in one run.
+//! Benchmarks: every export of the library beside the second program, and beside OpenSSL's MD5 of
+//! the bytes that the export hashes. All take turns in one run.
 //!
-//! One module for each benchmark. Run with `cargo run --release --offline -p bench -- NAME`.
+//! Prints Markdown for docs/BENCHMARKS.md. One module for each format; with the name of one, that
+//! one alone.
 
+mod chain;
 mod encoding;
 mod envelope;
 mod index;
-mod lookup;
+mod key;
+mod keys;
+mod machine;
 mod md5;
 mod measure;
+mod openssl;
+mod parsed;
 mod root;
+mod table;
 
 use std::env;
 use std::process::ExitCode;
 
-/// Each benchmark by its name.
-const BENCHMARKS: [(&str, fn()); 6] = [
-    ("md5", md5::run),
-    ("index", index::run),
-    ("lookup", lookup::run),
-    ("envelope", envelope::run),
-    ("encoding", encoding::run),
-    ("root", root::run),
+use table::Table;
+
+/// A part by its name.
+type Part = (&'static str, fn(&mut Table));
+
+const PARTS: [Part; 7] = [
+    ("md5", md5::measure),
+    ("index", index::measure),
+    ("key", key::measure),
+    ("envelope", envelope::measure),
+    ("encoding", encoding::measure),
+    ("root", root::measure),
+    ("chain", chain::measure),
 ];
 
+/// The table beside these: lookups in parsed forms.
+const PARSED: &str = "parsed";
+
 fn main() -> ExitCode {
-    let arguments: Vec<_> = env::args_os().skip(1).collect();
-    let benchmark = match arguments.as_slice() {
-        [wanted] => BENCHMARKS.iter().find(|(name, _)| wanted == name),
-        _ => None,
+    let arguments: Vec<_> = env::args().skip(1).collect();
+    let wanted = |name: &str| match arguments.as_slice() {
+        [] => true,
+        [only] => only == name,
+        _ => false,
     };
-    match benchmark {
-        Some((_, run)) => {
-            run();
-            ExitCode::SUCCESS
-        }
-        None => {
-            let names = BENCHMARKS.map(|(name, _)| name).join(" | ");
-            eprintln!("usage: bench {names}");
-            ExitCode::from(2)
-        }
+    let names = PARTS.map(|(name, _)| name);
+    if !names.into_iter().chain([PARSED]).any(wanted) {
+        eprintln!("usage: bench [{} | {PARSED}]", names.join(" | "));
+        return ExitCode::from(64);
     }
+    machine::print();
+    let parts = PARTS.iter().filter(|(name, _)| wanted(name));
+    let mut table = Table::new();
+    for (_, measure) in parts {
+        measure(&mut table);
+    }
+    if wanted(PARSED) {
+        parsed::print();
+    }
+    ExitCode::SUCCESS
 }

@@ -3,7 +3,7 @@
 use std::time::{Duration, Instant};
 
 /// How many times each contender is timed.
-pub const ROUNDS: usize = 41;
+pub const ROUNDS: usize = 21;
 
 /// How long one timing takes at least.
 pub const BATCH: Duration = Duration::from_millis(10);
@@ -11,17 +11,19 @@ pub const BATCH: Duration = Duration::from_millis(10);
 /// One of those to be compared: does the task so many times.
 pub type Contender<'a> = Box<dyn FnMut(u64) + 'a>;
 
-/// The seconds that each contender takes for the task: the median of the rounds. In each round
-/// the contenders take turns, so that a change of the machine's speed meets all of them.
+/// The seconds that each contender takes for the task: the best of the rounds, since what else the
+/// machine does only adds to them. In each round the contenders take turns, so that a change of the
+/// machine's speed meets all of them.
 pub fn seconds(contenders: &mut [Contender]) -> Vec<f64> {
     let passes: Vec<u64> = contenders.iter_mut().map(warm_up).collect();
-    let mut times = vec![Vec::with_capacity(ROUNDS); contenders.len()];
-    for _ in 0..ROUNDS {
-        for ((run, &passes), times) in contenders.iter_mut().zip(&passes).zip(&mut times) {
-            times.push(timed(run, passes).as_secs_f64() / passes as f64);
-        }
+    let mut best = vec![f64::INFINITY; contenders.len()];
+    for turn in 0..ROUNDS * contenders.len() {
+        let contender = turn % contenders.len();
+        let passes = passes[contender];
+        let time = timed(&mut contenders[contender], passes).as_secs_f64() / passes as f64;
+        best[contender] = best[contender].min(time);
     }
-    times.into_iter().map(median).collect()
+    best
 }
 
 /// Runs a contender until it is warm, and gives how many passes fill a batch.
@@ -39,7 +41,10 @@ fn timed(run: &mut Contender, passes: u64) -> Duration {
     start.elapsed()
 }
 
-fn median(mut times: Vec<f64>) -> f64 {
-    times.sort_by(f64::total_cmp);
-    times[times.len() / 2]
+/// A number that looks random, of this one: splitmix64.
+pub fn mixed(number: u64) -> u64 {
+    let mut z = number.wrapping_add(1).wrapping_mul(0x9e37_79b9_7f4a_7c15);
+    z = (z ^ (z >> 30)).wrapping_mul(0xbf58_476d_1ce4_e5b9);
+    z = (z ^ (z >> 27)).wrapping_mul(0x94d0_49bb_1331_11eb);
+    z ^ (z >> 31)
 }

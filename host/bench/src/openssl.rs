@@ -3,8 +3,24 @@
 use std::ffi::{CStr, c_char, c_int, c_uint, c_void};
 use std::mem;
 use std::ptr;
+use std::rc::Rc;
 
-use super::Hasher;
+use crate::md5::Hasher;
+
+/// One of the ways that OpenSSL offers.
+pub type OpenSsl = Rc<dyn Hasher>;
+
+/// All of them; none where there is no libcrypto.
+pub fn ways() -> Vec<OpenSsl> {
+    let Some(libcrypto) = Libcrypto::open() else {
+        return Vec::new();
+    };
+    let mut ways: Vec<OpenSsl> = vec![Rc::new(Legacy::new(&libcrypto))];
+    if let Some(evp) = Evp::new(&libcrypto) {
+        ways.push(Rc::new(evp));
+    }
+    ways
+}
 
 /// The names of libcrypto, newest first.
 const NAMES: [&CStr; 2] = [c"libcrypto.so.3", c"libcrypto.so.1.1"];
