@@ -3,7 +3,7 @@
 use std::collections::BTreeMap;
 use std::num::NonZero;
 use std::sync::atomic::{AtomicUsize, Ordering};
-use std::sync::mpsc;
+use std::sync::mpsc::{self, Receiver, SyncSender};
 use std::thread;
 
 use crate::status::Failure;
@@ -22,30 +22,56 @@ pub fn each<T: Sync, R: Send>(
         let (sender, results) = mpsc::sync_channel(4 * cores);
         for _ in 0..cores.min(items.len()) {
             let (sender, next, work) = (sender.clone(), &next, &work);
-            scope.spawn(move || {
-                while let Some((number, item)) = item(items, next) {
-                    if sender.send((number, work(item))).is_err() {
-                        break;
-                    }
-                }
-            });
+            scope.spawn(move || work_on(items, next, work, &sender));
         }
         drop(sender);
-        let mut early = BTreeMap::new();
-        let mut taken = 0;
-        for (number, result) in results {
-            early.insert(number, result);
-            while let Some(result) = early.remove(&taken) {
-                take(&items[taken], result)?;
-                taken += 1;
-            }
-        }
-        Ok(())
+        take_in_order(results, |number, result| take(&items[number], result))
     })
+}
+
+/// Works on items that nobody works on, until there is none or nobody takes the results.
+fn work_on<T, R>(
+    items: &[T],
+    next: &AtomicUsize,
+    work: &impl Fn(&T) -> R,
+    sender: &SyncSender<(usize, R)>,
+) {
+    while let Some((number, item)) = item(items, next) {
+        if sender.send((number, work(item))).is_err() {
+            break;
+        }
+    }
 }
 
 /// The next item that nobody works on.
 fn item<'a, T>(items: &'a [T], next: &AtomicUsize) -> Option<(usize, &'a T)> {
     let number = next.fetch_add(1, Ordering::Relaxed);
     Some((number, items.get(number)?))
+}
+
+/// Takes results in the order of their numbers, whatever the order in which they come.
+fn take_in_order<R>(
+    results: Receiver<(usize, R)>,
+    mut take: impl FnMut(usize, R) -> Result<(), Failure>,
+) -> Result<(), Failure> {
+    let mut early = BTreeMap::new();
+    let mut taken = 0;
+    for (number, result) in results {
+        early.insert(number, result);
+        taken = take_from(taken, &mut early, &mut take)?;
+    }
+    Ok(())
+}
+
+/// Takes the results from this number on that are there, and gives the number of the next.
+fn take_from<R>(
+    mut number: usize,
+    early: &mut BTreeMap<usize, R>,
+    take: &mut impl FnMut(usize, R) -> Result<(), Failure>,
+) -> Result<usize, Failure> {
+    while let Some(result) = early.remove(&number) {
+        take(number, result)?;
+        number += 1;
+    }
+    Ok(number)
 }
