@@ -174,3 +174,9 @@ hex-digit = 61
 -- listing input above 65,536 bytes
 abbrev pub listing-input : ℕ
 listing-input = 70
+
+-- ---- lists of file numbers
+
+-- list falls; place: number of the id
+abbrev pub list-falls : ℕ
+list-falls = 161

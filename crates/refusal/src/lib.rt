@@ -90,6 +90,9 @@ pub const HEX_DIGIT: u32 = 61;
 // Listing.
 pub const LISTING_INPUT: u32 = 70;
 
+// Lists of file numbers.
+pub const LIST_FALLS: u32 = 161;
+
 // What a refusal gives: its number, and its place (0 where rule N1 names none).
 pub struct Refusal {
     pub number: u32,
