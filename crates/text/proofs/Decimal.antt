@@ -7,14 +7,9 @@ use native.Mathlib.Nat.{pow-suc}
 use native.Mathlib.Omega.{arith}
 use lib.Dec.{ltb}
 use borrow.Author.Tests.{ltb-true}
-use Rattle.text.specs.Text.{decimalDigits, decimal}
+use Rattle.text.specs.Text.{decimalDigits, decimal, reads}
 
--- the number that a text of digits writes, after others that wrote n
-unfoldable pub reads : ℕ → List ℕ → ℕ
-reads n [] = n
-reads n (d ∷ s) = reads (n * 10 + (d - 48)) s
-
-reads-append : (n : ℕ) (a b : List ℕ) → reads n (a ++ b) ≡ reads (reads n a) b
+pub reads-append : (n : ℕ) (a b : List ℕ) → reads n (a ++ b) ≡ reads (reads n a) b
 unfolding reads
 reads-append n [] b = refl
 reads-append n (d ∷ a) b = reads-append (n * 10 + (d - 48)) a b

@@ -2,7 +2,7 @@
 use mathlib.Core.Bool.{cond}
 use mathlib.Core.List.{List, [], _∷_, _++_}
 use Prim.Native.Char.{code}
-use Prim.Native.Nat.{ℕ, zero, suc, _+_, _/_, _%_}
+use Prim.Native.Nat.{ℕ, zero, suc, _+_, _-_, _*_, _/_, _%_}
 use Prim.Native.String as string
 use Prim.Native.String.{String}
 use lib.Dec.{ltb}
@@ -20,6 +20,11 @@ decimalDigits (suc f) n = cond (ltb n 10) [] (decimalDigits f (n / 10)) ++ ((48 
 -- A number in decimal. A number of 64 bits has at most 20 digits.
 abbrev pub decimal : ℕ → List ℕ
 decimal n = decimalDigits 20 n
+
+-- The number that a text of digits tells, behind others that told n.
+unfoldable pub reads : ℕ → List ℕ → ℕ
+reads n [] = n
+reads n (d ∷ s) = reads (n * 10 + (d - 48)) s
 
 -- A word, and a number in decimal after it.
 abbrev pub numbered : String → ℕ → List ℕ
