@@ -1,0 +1,61 @@
+-- `worklist_unquoted::put`: a whole quoted field without its quotes, any other as it is.
+use mathlib.Core.Path.{sym, ap, _∙_}
+use native.Mathlib.Omega.{arith}
+use lib.ListN.{length}
+use Rattle.parts.specs.Part.{overlay}
+use Rattle.parts.proofs.Laws.{partAt-length}
+use Rattle.worklist_unquoted.proofs.Laws.{whole-content, plain-content}
+use borrow.Author.Needs.{needs}
+use Rattle.worklist_unquoted.proofs.put.Statement.{statement}
+use Rattle.worklist_unquoted.proofs.put.Tie as tie
+
+whole-requires : tie.Need-whole-requires
+whole-requires c κs = search needs
+
+rest-requires : tie.Need-rest-requires
+rest-requires c κs = search needs
+
+part-requires : tie.Need-part-requires
+part-requires c κs = search needs
+
+put-undoubled-requires : tie.Need-put-undoubled-requires
+put-undoubled-requires c κs =
+    let a = c .before .before .before .before .before .before .before .args in
+    omega (arith, ap length (c .before .part .ensures), partAt-length (a .field .now) 1 (c .before .before .rest .result), c .before .before .rest .ensures)
+
+same-length : tie.Need-same-length
+same-length c = search needs
+
+returns : tie.Need-returns
+returns c =
+    let a = c .before .before .before .before .before .before .before .before .before .before .args in
+    let p = c .before .before .put-undoubled in
+    let part = c .before .before .before .before .part in
+    let e = whole-content (a .field .now) _ _ (sym (c .before .before .before .before .before .before .before .whole .ensures) ∙ c .before .before .before .before .before .before .if1 .taken) (part .ensures) (c .before .before .before .before .before .rest .ensures) in
+    (p .ensures .0 ∙ ap length e, p .ensures .1 ∙ ap (overlay (a .output .now) 0) e)
+
+copy-requires : tie.Need-copy-requires
+copy-requires c κs = search needs
+
+same-length-2 : tie.Need-same-length-2
+same-length-2 c = search needs
+
+returns-2 : tie.Need-returns-2
+returns-2 c =
+    let a = c .before .before .before .before .before .before .before .before .args in
+    let e = plain-content (a .field .now) (sym (c .before .before .before .before .before .whole .ensures) ∙ c .before .before .before .before .if1 .left) in
+    (ap length e, c .before .before .copy .ensures ∙ ap (overlay (a .output .now) 0) e)
+
+pub put-spec : {M : Type 1} → statement M
+put-spec =
+    tie.close
+    (tie.spec
+    whole-requires
+    rest-requires
+    part-requires
+    put-undoubled-requires
+    same-length
+    returns
+    copy-requires
+    same-length-2
+    returns-2)

@@ -1,0 +1,74 @@
+-- `worklist_unquoted::put_undoubled`: the bytes so far, each doubled quote as one.
+use Prim.Native.Nat.{_-_, _≤_}
+use native.Mathlib.Omega.{arith}
+use borrow.Author.Needs.{needs}
+use lib.ListN.{length}
+use Rattle.parts.specs.Part.{byteAt}
+use Rattle.worklist_unquoted.proofs.Laws.{Put, put-none, put-next, put-all, put-length, step-range}
+use Rattle.worklist_unquoted.proofs.put_undoubled.Statement.{statement}
+use Rattle.worklist_unquoted.proofs.put_undoubled.Tie as tie
+
+abbrev Inv-loop : tie.InvT-loop
+Inv-loop bytes output₀ to₀ at₀ output to at = Put bytes output₀ output to at
+
+abbrev μ-loop : tie.MeasureT-loop
+μ-loop bytes output₀ to₀ at₀ output to at = length bytes - at
+
+loop-holds : tie.Need-loop-holds Inv-loop μ-loop
+loop-holds c = put-none _ _
+
+shared-slice-read-b : tie.Need-shared-slice-read-b Inv-loop μ-loop
+shared-slice-read-b c = search needs
+
+slice-aggregate-copy : tie.Need-slice-aggregate-copy Inv-loop μ-loop
+slice-aggregate-copy c = search needs
+
+copy-requires : tie.Need-copy-requires Inv-loop μ-loop
+copy-requires c κs = search needs
+
+add-to : tie.Need-add-to Inv-loop μ-loop
+add-to c = search needs
+
+step-requires : tie.Need-step-requires Inv-loop μ-loop
+step-requires c κs = search needs
+
+range : (c : tie.After-step Inv-loop μ-loop) → (1 ≤ c .step .result) × (c .step .result ≤ 2)
+range c =
+    let l = c .before .before .before .before .before .before .before .before .loop in
+    let a = c .before .before .before .before .before .before .before .before .before .before .before .args in
+    step-range (byteAt (a .bytes .now) (l .at)) (c .step .result) (c .step .ensures)
+
+add-at : tie.Need-add-at Inv-loop μ-loop
+add-at c = omega (arith, range c, c .before .before .before .before .before .before .before .before .before .before .before .pre)
+
+loop-less : tie.Need-loop-less Inv-loop μ-loop
+loop-less c = omega (arith, range c)
+
+loop-again : tie.Need-loop-again Inv-loop μ-loop
+loop-again c =
+    let l = c .before .before .before .before .before .before .before .before .loop in
+    put-next (l .inv) _ _ (search needs) (c .before .before .before .copy .ensures) (c .step .ensures)
+
+same-length : tie.Need-same-length Inv-loop μ-loop
+same-length c = put-length (c .before .loop .inv)
+
+returns : tie.Need-returns Inv-loop μ-loop
+returns c = put-all (c .before .loop .inv) (search needs)
+
+pub put-undoubled-spec : {M : Type 1} → statement M
+put-undoubled-spec =
+    tie.close
+    (tie.spec
+    Inv-loop
+    μ-loop
+    loop-holds
+    shared-slice-read-b
+    slice-aggregate-copy
+    copy-requires
+    add-to
+    step-requires
+    add-at
+    loop-less
+    loop-again
+    same-length
+    returns)
