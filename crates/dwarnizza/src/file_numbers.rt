@@ -1,8 +1,11 @@
 // File numbers.
 use crate::answer::entry_words;
 use chain::Resolved;
+use file_number::Told;
 ghost use mathlib.Core.Path.{_≡_};
 ghost use Rattle.chain.specs.Chain.{resolve};
+ghost use Rattle.file_number.specs.FileNumber.{fileNumberOf};
+ghost use Rattle.dwarnizza.specs.Answer.{result, answerWords};
 ghost use Rattle.dwarnizza.specs.FileNumbers.{chainResult, chainWords};
 
 // Follows a file number through root, encoding file and index: page, slot, size, location and comparisons; where a link is absent,
@@ -36,6 +39,26 @@ pub extern "C" fn dwarnizza_resolve(
         Resolved::Found(e) => {
             *answer = entry_words(e);
             0
+        }
+    }
+}
+
+// The file number that a decimal text tells; where it tells none, what is wrong and its place.
+#[no_mangle]
+pub extern "C" fn dwarnizza_file_number(text: &[u8], answer: &mut [u64; 8]) -> u32
+    ensures { λ r. ⌜ r ≡ result (fileNumberOf (now (text .entry))) ⌝ }
+    ensures { λ _. ⌜ now (answer .exit) ≡ answerWords (fileNumberOf (now (text .entry))) ⌝ }
+{
+    match file_number::read(text) {
+        Told::Number(n) => {
+            *answer = [n as u64, 0, 0, 0, 0, 0, 0, 0];
+            0
+        }
+        Told::NoNumber(f) => {
+            let what = f.what as u64;
+            let place = f.place as u64;
+            *answer = [what, place, 0, 0, 0, 0, 0, 0];
+            1
         }
     }
 }

@@ -8,3 +8,4 @@ pub mod hash;
 pub mod indexes;
 pub mod keys;
 pub mod roots;
+pub mod worklists;

@@ -18,12 +18,6 @@ abbrev μ-loop : tie.MeasureT-loop
 loop-holds : tie.Need-loop-holds Inv-loop μ-loop
 loop-holds c = sum-none _
 
-mul-n : tie.Need-mul-n Inv-loop μ-loop
-mul-n c = search needs
-
-shared-slice-read-n : tie.Need-shared-slice-read-n Inv-loop μ-loop
-shared-slice-read-n c = search needs
-
 sub-n : tie.Need-sub-n Inv-loop μ-loop
 sub-n c = omega (arith, digit-range _ (c .before .before .before .before .pre) (c .before .before .loop .at) (search needs))
 
@@ -33,23 +27,11 @@ cast-n c = omega (arith, digit-range _ (c .before .before .before .before .pre) 
 add-n : tie.Need-add-n Inv-loop μ-loop
 add-n c = omega (arith, digit-range _ (c .before .before .before .before .pre) (c .before .before .loop .at) (search needs))
 
-wrong-requires : tie.Need-wrong-requires Inv-loop μ-loop
-wrong-requires c κs = search needs
-
 returns : tie.Need-returns Inv-loop μ-loop
 returns c = c .wrong .ensures ∙ sum-great (c .before .before .before .before .loop .inv) (search needs) (search needs)
 
-add-at : tie.Need-add-at Inv-loop μ-loop
-add-at c = search needs
-
-loop-less : tie.Need-loop-less Inv-loop μ-loop
-loop-less c = search needs
-
 loop-again : tie.Need-loop-again Inv-loop μ-loop
 loop-again c = sum-next (c .before .before .before .loop .inv) (search needs) (search needs)
-
-cast-t11 : tie.Need-cast-t11 Inv-loop μ-loop
-cast-t11 c = search needs
 
 returns-2 : tie.Need-returns-2 Inv-loop μ-loop
 unfolding outcome
@@ -62,15 +44,15 @@ number-spec =
     Inv-loop
     μ-loop
     loop-holds
-    mul-n
-    shared-slice-read-n
+    (λ c. search needs)
+    (λ c. search needs)
     sub-n
     cast-n
     add-n
-    wrong-requires
+    (λ c κs. search needs)
     returns
-    add-at
-    loop-less
+    (λ c. search needs)
+    (λ c. search needs)
     loop-again
-    cast-t11
+    (λ c. search needs)
     returns-2)

@@ -16,32 +16,17 @@ no-zero c =
     let text = c .before .before .before .args .text .now in
     ⊎-elim (λ w. other-byte text (eqb-false (byteAt text 0) 48 (w .2 .left))) (λ w. one-byte text (w .left)) (c .if2 .came)
 
-wrong-requires : tie.Need-wrong-requires
-wrong-requires c κs = search needs
-
 returns : tie.Need-returns
 returns c =
     let text = c .before .before .before .args .text .now in
     let e = c .wrong .ensures ∙ told-empty text (search needs) in
     (e, told-written _ text e)
 
-shared-slice-read-if3 : tie.Need-shared-slice-read-if3
-shared-slice-read-if3 c = search needs
-
-wrong-requires-2 : tie.Need-wrong-requires-2
-wrong-requires-2 c κs = search needs
-
 returns-2 : tie.Need-returns-2
 returns-2 c =
     let text = c .before .before .before .before .before .before .args .text .now in
     let e = c .wrong2 .ensures ∙ told-zero text (search needs) (search needs) (eqb-true (byteAt text 0) 48 (c .before .if3 .taken)) in
     (e, told-written _ text e)
-
-digits-requires : tie.Need-digits-requires
-digits-requires c κs = search needs
-
-wrong-requires-3 : tie.Need-wrong-requires-3
-wrong-requires-3 c κs = search needs
 
 returns-3 : tie.Need-returns-3
 returns-3 c =
@@ -64,13 +49,13 @@ pub read-spec : {M : Type 1} → statement M
 read-spec =
     tie.close
     (tie.spec
-    wrong-requires
+    (λ c κs. search needs)
     returns
-    shared-slice-read-if3
-    wrong-requires-2
+    (λ c. search needs)
+    (λ c κs. search needs)
     returns-2
-    digits-requires
-    wrong-requires-3
+    (λ c κs. search needs)
+    (λ c κs. search needs)
     returns-3
     number-requires
     returns-4)

@@ -9,22 +9,10 @@ use borrow.Author.Needs.{needs}
 use Rattle.worklist_unquoted.proofs.put.Statement.{statement}
 use Rattle.worklist_unquoted.proofs.put.Tie as tie
 
-whole-requires : tie.Need-whole-requires
-whole-requires c κs = search needs
-
-rest-requires : tie.Need-rest-requires
-rest-requires c κs = search needs
-
-part-requires : tie.Need-part-requires
-part-requires c κs = search needs
-
 put-undoubled-requires : tie.Need-put-undoubled-requires
 put-undoubled-requires c κs =
     let a = c .before .before .before .before .before .before .before .args in
     omega (arith, ap length (c .before .part .ensures), partAt-length (a .field .now) 1 (c .before .before .rest .result), c .before .before .rest .ensures)
-
-same-length : tie.Need-same-length
-same-length c = search needs
 
 returns : tie.Need-returns
 returns c =
@@ -33,12 +21,6 @@ returns c =
     let part = c .before .before .before .before .part in
     let e = whole-content (a .field .now) _ _ (sym (c .before .before .before .before .before .before .before .whole .ensures) ∙ c .before .before .before .before .before .before .if1 .taken) (part .ensures) (c .before .before .before .before .before .rest .ensures) in
     (p .ensures .0 ∙ ap length e, p .ensures .1 ∙ ap (overlay (a .output .now) 0) e)
-
-copy-requires : tie.Need-copy-requires
-copy-requires c κs = search needs
-
-same-length-2 : tie.Need-same-length-2
-same-length-2 c = search needs
 
 returns-2 : tie.Need-returns-2
 returns-2 c =
@@ -50,12 +32,12 @@ pub put-spec : {M : Type 1} → statement M
 put-spec =
     tie.close
     (tie.spec
-    whole-requires
-    rest-requires
-    part-requires
+    (λ c κs. search needs)
+    (λ c κs. search needs)
+    (λ c κs. search needs)
     put-undoubled-requires
-    same-length
+    (λ c. search needs)
     returns
-    copy-requires
-    same-length-2
+    (λ c κs. search needs)
+    (λ c. search needs)
     returns-2)

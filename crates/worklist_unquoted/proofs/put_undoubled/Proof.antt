@@ -17,21 +17,6 @@ abbrev μ-loop : tie.MeasureT-loop
 loop-holds : tie.Need-loop-holds Inv-loop μ-loop
 loop-holds c = put-none _ _
 
-shared-slice-read-b : tie.Need-shared-slice-read-b Inv-loop μ-loop
-shared-slice-read-b c = search needs
-
-slice-aggregate-copy : tie.Need-slice-aggregate-copy Inv-loop μ-loop
-slice-aggregate-copy c = search needs
-
-copy-requires : tie.Need-copy-requires Inv-loop μ-loop
-copy-requires c κs = search needs
-
-add-to : tie.Need-add-to Inv-loop μ-loop
-add-to c = search needs
-
-step-requires : tie.Need-step-requires Inv-loop μ-loop
-step-requires c κs = search needs
-
 range : (c : tie.After-step Inv-loop μ-loop) → (1 ≤ c .step .result) × (c .step .result ≤ 2)
 range c =
     let l = c .before .before .before .before .before .before .before .before .loop in
@@ -62,11 +47,11 @@ put-undoubled-spec =
     Inv-loop
     μ-loop
     loop-holds
-    shared-slice-read-b
-    slice-aggregate-copy
-    copy-requires
-    add-to
-    step-requires
+    (λ c. search needs)
+    (λ c. search needs)
+    (λ c κs. search needs)
+    (λ c. search needs)
+    (λ c κs. search needs)
     add-at
     loop-less
     loop-again

@@ -14,29 +14,14 @@ Inv-loop field closed₀ at₀ closed at = Scanned field closed at
 abbrev μ-loop : tie.MeasureT-loop
 μ-loop field closed₀ at₀ closed at = length field - at
 
-byte-requires : tie.Need-byte-requires Inv-loop μ-loop
-byte-requires c κs = search needs
-
 returns : tie.Need-returns Inv-loop μ-loop
 returns c = not-quoted (c .before .before .before .args .field .now) (λ e. c .if1 .taken (c .before .byte .ensures ∙ e))
 
 loop-holds : tie.Need-loop-holds Inv-loop μ-loop
 loop-holds c = scan-none (c .before .before .before .args .field .now) (sym (c .before .byte .ensures) ∙ c .if1 .left)
 
-shared-slice-read-if3 : tie.Need-shared-slice-read-if3 Inv-loop μ-loop
-shared-slice-read-if3 c = search needs
-
 returns-2 : tie.Need-returns-2 Inv-loop μ-loop
 returns-2 c = scan-broken (c .before .before .before .before .loop .inv) (search needs) (c .before .before .if2 .taken) (c .if3 .taken)
-
-shared-slice-read-closed : tie.Need-shared-slice-read-closed Inv-loop μ-loop
-shared-slice-read-closed c = search needs
-
-add-at : tie.Need-add-at Inv-loop μ-loop
-add-at c = search needs
-
-loop-less : tie.Need-loop-less Inv-loop μ-loop
-loop-less c = search needs
 
 loop-again : tie.Need-loop-again Inv-loop μ-loop
 loop-again c =
@@ -53,13 +38,13 @@ whole-spec =
     (tie.spec
     Inv-loop
     μ-loop
-    byte-requires
+    (λ c κs. search needs)
     returns
     loop-holds
-    shared-slice-read-if3
+    (λ c. search needs)
     returns-2
-    shared-slice-read-closed
-    add-at
-    loop-less
+    (λ c. search needs)
+    (λ c. search needs)
+    (λ c. search needs)
     loop-again
     returns-3)
