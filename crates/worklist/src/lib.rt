@@ -211,7 +211,6 @@ fn walk(text: &[u8], at: usize, separator: u8, column: usize) -> Walked
 
 // The place behind the line end at a place; that place where none stands there.
 fn behind_line_end(text: &[u8], at: usize) -> usize
-    requires { ⌜ at ≤ length (now text) ⌝ }
     ensures { λ r. ⌜ r ≡ spec.behindLineEnd (now (text .entry)) at ⌝ }
 {
     let first = byte(text, at);

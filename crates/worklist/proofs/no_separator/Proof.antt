@@ -1,0 +1,35 @@
+-- `worklist::no_separator`: test by test.
+use borrow.Author.Tests.{lt-ltb, le-ltb, eq-eqb, ne-eqb}
+use Rattle.worklist.specs.Rows.{noSeparator}
+use borrow.Author.Needs.{needs}
+use Rattle.worklist.proofs.no_separator.Statement.{statement}
+use Rattle.worklist.proofs.no_separator.Tie as tie
+
+returns : tie.Need-returns
+unfolding noSeparator
+returns c = rw (lt-ltb _ _ (c .if1 .taken))
+
+cast-if2 : tie.Need-cast-if2
+cast-if2 c = search needs
+
+returns-2 : tie.Need-returns-2
+unfolding noSeparator
+returns-2 c = rw (le-ltb _ _ (c .before .if1 .left), eq-eqb _ _ (c .if2 .taken))
+
+cast-if3 : tie.Need-cast-if3
+cast-if3 c = search needs
+
+returns-3 : tie.Need-returns-3
+unfolding noSeparator
+returns-3 c = rw (le-ltb _ _ (c .before .before .if1 .left), ne-eqb _ _ (c .before .if2 .left), eq-eqb _ _ (c .if3 .taken))
+
+cast-result : tie.Need-cast-result
+cast-result c = search needs
+
+returns-4 : tie.Need-returns-4
+unfolding noSeparator
+returns-4 c = rw (le-ltb _ _ (c .before .before .if1 .left), ne-eqb _ _ (c .before .if2 .left), ne-eqb _ _ (c .if3 .left))
+
+pub no-separator-spec : {M : Type 1} → statement M
+no-separator-spec =
+    tie.close (tie.spec returns cast-if2 returns-2 cast-if3 returns-3 cast-result returns-4)
