@@ -27,7 +27,7 @@ there t at b e h = go (decLt at (length t))
   where
     go : Dec (at < length t) → at < length t
     go (yes l) = l
-    go (no l) = absurd (omega (arith, e, List·getD-eq-default t 0 {at} (omega arith)))
+    go (no l) = absurd (omega (arith, e, List·getD-eq-default t 0 {n = at} (omega arith)))
 
 pub behind : (t : List ℕ) (at : ℕ) → at < length t → drop at t ≡ byteAt t at ∷ drop (at + 1) t
 behind t at l = rw add-one (drop-cons t at 0 l)

@@ -1,4 +1,5 @@
 -- Separated text t with a separator: rules D1 to D7. A place is a byte offset in t.
+use mathlib.Core.Path.{_≡_}
 use mathlib.Core.Bool.{Bool, true, false, cond, _||_, _&&_}
 use mathlib.Core.List.{List, [], _∷_}
 use Prim.Native.Nat.{ℕ, zero, suc, _+_, _-_}
@@ -116,6 +117,10 @@ rowBy (suc turns) sep t at = rowStep sep t at (fieldAt sep t at) (rowBy turns se
 unfoldable pub rowAt : ℕ → List ℕ → ℕ → Row
 rowAt sep t at = rowBy (length t - at + 1) sep t at
 
+-- The row without turns: a field, and what follows it.
+abbrev pub RowRule : ℕ → List ℕ → Type 0
+RowRule sep t = (at : ℕ) → rowAt sep t at ≡ rowStep sep t at (fieldAt sep t at) (rowAt sep t)
+
 -- A malformed row ends at the first CR or LF from its place on, or at the text's end (rule D5): with LF for a separator nothing
 -- else stops.
 unfoldable pub rowEnd : List ℕ → Row → ℕ
@@ -129,9 +134,13 @@ unfoldable pub rowValues : List ℕ → Row → List ℕ
 rowValues t (whole fields end) = end ∷ behindLineEnd t end ∷ length fields ∷ 0 ∷ 0 ∷ []
 rowValues t (malformed place) = stopAt lf t place ∷ behindLineEnd t (stopAt lf t place) ∷ 0 ∷ 1 ∷ place ∷ []
 
--- A row begins at any byte before the text's end (rule D5).
-unfoldable pub rowOutcome : List ℕ → ℕ → ℕ → Outcome
-rowOutcome t at sep = after (separatorCheck sep) (cond (ltb at (length t)) (answered (rowValues t (rowAt sep t at))) (absent []))
+-- Told of a row: a separator that is none is refused before anything else (rule D1), and a row begins at any byte before the
+-- text's end (rule D5).
+unfoldable pub ofRow : List ℕ → ℕ → ℕ → Outcome → Outcome
+ofRow t at sep told = after (separatorCheck sep) (cond (ltb at (length t)) told (absent []))
+
+abbrev pub rowOutcome : List ℕ → ℕ → ℕ → Outcome
+rowOutcome t at sep = ofRow t at sep (answered (rowValues t (rowAt sep t at)))
 
 -- Place and length of a field, and 1 where it is quoted, else 0 (rule D7).
 unfoldable pub spanValues : Span → List ℕ
@@ -146,8 +155,8 @@ unfoldable pub fieldIn : Row → ℕ → Outcome
 fieldIn (whole fields end) column = columnOf fields column
 fieldIn (malformed place) column = absent []
 
-unfoldable pub fieldOutcome : List ℕ → ℕ → ℕ → ℕ → Outcome
-fieldOutcome t at sep column = after (separatorCheck sep) (cond (ltb at (length t)) (fieldIn (rowAt sep t at) column) (absent []))
+abbrev pub fieldOutcome : List ℕ → ℕ → ℕ → ℕ → Outcome
+fieldOutcome t at sep column = ofRow t at sep (fieldIn (rowAt sep t at) column)
 
 -- The part of the text that an answer tells, and where it stands; empty where it tells none (rule D7).
 unfoldable pub placeOf : Outcome → ℕ

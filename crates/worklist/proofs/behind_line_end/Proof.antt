@@ -1,5 +1,6 @@
 -- `worklist::behind_line_end`: byte by byte.
 use mathlib.Core.Path.{sym, _∙_}
+use Prim.Native.Nat.{_+_}
 use native.Mathlib.Omega.{arith}
 use borrow.Author.Tests.{eq-eqb, ne-eqb}
 use Rattle.worklist.specs.Rows.{behindLineEnd}
@@ -12,7 +13,9 @@ byte-requires : tie.Need-byte-requires
 byte-requires c κs = search needs
 
 add-result : tie.Need-add-result
-add-result c = omega (arith, there _ _ _ (c .before .byte .ensures) (omega (arith, c .if1 .taken)))
+add-result c =
+    let a = c .before .before .before .args in
+    omega (arith, there (a .text .now) (a .at) (c .before .byte .result) (c .before .byte .ensures) (omega (arith, c .if1 .taken)))
 
 returns : tie.Need-returns
 unfolding behindLineEnd
@@ -25,13 +28,18 @@ returns-2 c =
     rw (ne-eqb _ _ (λ e. c .before .if1 .left (first ∙ e)), ne-eqb _ _ (λ e. c .if2 .taken (first ∙ e)))
 
 add-byte : tie.Need-add-byte
-add-byte c = omega (arith, there _ _ _ (c .before .before .byte .ensures) (omega (arith, c .if2 .left)))
+add-byte c =
+    let k = c .before .before in
+    let a = k .before .before .args in
+    omega (arith, there (a .text .now) (a .at) (k .byte .result) (k .byte .ensures) (omega (arith, c .if2 .left)))
 
 byte-requires-2 : tie.Need-byte-requires-2
 byte-requires-2 c κs = search needs
 
 add-result-2 : tie.Need-add-result-2
-add-result-2 c = omega (arith, there _ _ _ (c .before .byte2 .ensures) (omega (arith, c .if3 .taken)))
+add-result-2 c =
+    let a = c .before .before .before .before .before .before .args in
+    omega (arith, there (a .text .now) (a .at + 1) (c .before .byte2 .result) (c .before .byte2 .ensures) (omega (arith, c .if3 .taken)))
 
 returns-3 : tie.Need-returns-3
 unfolding behindLineEnd
@@ -41,8 +49,9 @@ returns-3 c =
 
 add-result-3 : tie.Need-add-result-3
 add-result-3 c =
-    let k = c .before .before in
-    omega (arith, there _ _ _ (k .before .before .byte .ensures) (omega (arith, k .if2 .left)))
+    let k = c .before .before .before .before in
+    let a = k .before .before .args in
+    omega (arith, there (a .text .now) (a .at) (k .byte .result) (k .byte .ensures) (omega (arith, c .before .before .if2 .left)))
 
 returns-4 : tie.Need-returns-4
 unfolding behindLineEnd

@@ -15,7 +15,9 @@ returns : tie.Need-returns
 returns c = plain-field _ _ _ _ (c .before .before .byte .ensures) (c .before .if1 .taken) _ (c .stop-from .ensures)
 
 add-closing-from : tie.Need-add-closing-from
-add-closing-from c = omega (arith, there _ _ _ (c .before .byte .ensures) (omega (arith, c .if1 .left)))
+add-closing-from c =
+    let a = c .before .before .before .args in
+    omega (arith, there (a .text .now) (a .at) (c .before .byte .result) (c .before .byte .ensures) (omega (arith, c .if1 .left)))
 
 closing-from-requires : tie.Need-closing-from-requires
 closing-from-requires c κs = search needs

@@ -1,68 +1,82 @@
+-- `worklist::walk`: field after field.
+use mathlib.Core.Path.{sym, _∙_}
+use Prim.Native.Nat.{_+_, _-_}
+use native.Mathlib.Omega.{arith}
+use borrow.Author.Tests.{not-true, not-false}
+use lib.ListN.{length}
+use Rattle.worklist.proofs.Rows.{Walking, walking-none, walked-malformed, walked-whole, walking-on, field-forward, separator-inside}
+use borrow.Author.Needs.{needs}
 use Rattle.worklist.proofs.walk.Statement.{statement}
 use Rattle.worklist.proofs.walk.Tie as tie
-use Rattle.worklist.proofs.walk.Reads as reads
-use Rattle.worklist.proofs.walk.Lts as lts
-use Rattle.worklist.proofs.field_end.Reads as field-end-reads
-use Rattle.worklist.proofs.kept.Reads as kept-reads
-use Rattle.worklist.proofs.separator_at.Reads as separator-at-reads
 
 abbrev Inv-loop : tie.InvT-loop
-Inv-loop text at separator column from₀ fields₀ found₀ from fields found = ?
+Inv-loop text at separator column from₀ fields₀ found₀ from fields found = Walking separator text at column from fields found
 
 abbrev μ-loop : tie.MeasureT-loop
-μ-loop text at separator column from₀ fields₀ found₀ from fields found = ?
+μ-loop text at separator column from₀ fields₀ found₀ from fields found = length text + 1 - from
 
--- src/lib.rt:190:5
 loop-holds : tie.Need-loop-holds Inv-loop μ-loop
-loop-holds c = ?
+loop-holds c = walking-none _ _ _ _ (search needs)
 
--- src/lib.rt:191:15
 field-end-requires : tie.Need-field-end-requires Inv-loop μ-loop
-field-end-requires c κs = ?
+field-end-requires c κs = search needs
 
--- src/lib.rt:192:30
 enum-known-place : tie.Need-enum-known-place Inv-loop μ-loop
-enum-known-place c = ?
+enum-known-place c = search needs
 
--- src/lib.rt:193:17
 returns : tie.Need-returns Inv-loop μ-loop
-returns c = ?
+returns c =
+    let f = c .before .before .before in
+    walked-malformed (f .before .loop .inv) (sym (f .field-end .ensures) ∙ c .before .place .given .1)
 
--- src/lib.rt:195:29
 enum-known-end : tie.Need-enum-known-end Inv-loop μ-loop
-enum-known-end c = ?
+enum-known-end c = search needs
 
--- src/lib.rt:198:29
 sub-t13 : tie.Need-sub-t13 Inv-loop μ-loop
-sub-t13 c = ?
+sub-t13 c =
+    let e = c .before in
+    let f = e .before .before in
+    let a = f .before .before .before .args in
+    field-forward (a .separator) (a .text .now) (f .before .loop .from) _ _ (sym (f .field-end .ensures) ∙ e .end .given .1)
 
--- src/lib.rt:201:17
 kept-requires : tie.Need-kept-requires Inv-loop μ-loop
-kept-requires c κs = ?
+kept-requires c κs = search needs
 
--- src/lib.rt:202:17
 add-fields : tie.Need-add-fields Inv-loop μ-loop
-add-fields c = ?
+add-fields c =
+    let i = c .before .before .before .before .before .loop .inv in
+    omega (arith, i .few, i .inside)
 
--- src/lib.rt:203:21
 separator-at-requires : tie.Need-separator-at-requires Inv-loop μ-loop
-separator-at-requires c κs = ?
+separator-at-requires c κs = search needs
 
--- src/lib.rt:204:21
 returns-2 : tie.Need-returns-2 Inv-loop μ-loop
-returns-2 c = ?
+returns-2 c =
+    let e = c .before .before .before .before in
+    let f = e .before .before in
+    walked-whole (f .before .loop .inv) _ _ (sym (f .field-end .ensures) ∙ e .end .given .1) _ (c .before .before .kept .ensures) (sym (c .before .separator-at .ensures) ∙ not-true _ (c .if1 .taken))
 
--- src/lib.rt:206:24
 add-from : tie.Need-add-from Inv-loop μ-loop
-add-from c = ?
+add-from c =
+    let e = c .before .before .before .before in
+    let f = e .before .before in
+    let a = f .before .before .before .args in
+    omega (arith, separator-inside (a .separator) (a .text .now) (e .end .given .0 .0) (sym (c .before .separator-at .ensures) ∙ not-false _ (c .if1 .left)))
 
--- src/lib.rt:190:5
 loop-less : tie.Need-loop-less Inv-loop μ-loop
-loop-less c = ?
+loop-less c =
+    let e = c .before .before .before .before in
+    let f = e .before .before in
+    let a = f .before .before .before .args in
+    omega
+    (arith, separator-inside (a .separator) (a .text .now) (e .end .given .0 .0) (sym (c .before .separator-at .ensures) ∙ not-false _ (c .if1 .left)),
+    field-forward (a .separator) (a .text .now) (f .before .loop .from) (e .end .given .0 .0) (e .end .given .0 .1 .0) (sym (f .field-end .ensures) ∙ e .end .given .1))
 
--- src/lib.rt:190:5
 loop-again : tie.Need-loop-again Inv-loop μ-loop
-loop-again c = ?
+loop-again c =
+    let e = c .before .before .before .before in
+    let f = e .before .before in
+    walking-on (f .before .loop .inv) _ _ (sym (f .field-end .ensures) ∙ e .end .given .1) _ (c .before .before .kept .ensures) (sym (c .before .separator-at .ensures) ∙ not-false _ (c .if1 .left))
 
 pub walk-spec : {M : Type 1} → statement M
 walk-spec =

@@ -1,0 +1,72 @@
+-- `worklist::field`: the separator, whether a row begins, and what the walk tells.
+use mathlib.Core.Path.{sym, _∙_}
+use native.Mathlib.Omega.{arith}
+use Rattle.worklist.specs.Rows.{fieldTold}
+use Rattle.worklist.proofs.Told.{no-separator-told, no-row-told, separator-byte, row-told, found-told, past-told, none-told}
+use borrow.Author.Needs.{needs}
+use Rattle.worklist.proofs.field.Statement.{statement}
+use Rattle.worklist.proofs.field.Tie as tie
+
+no-separator-requires : tie.Need-no-separator-requires
+no-separator-requires c κs = search needs
+
+returns : tie.Need-returns
+unfolding fieldTold
+returns c = no-separator-told _ _ (c .before .no-separator .ensures) _ _ _ (c .if1 .taken)
+
+returns-2 : tie.Need-returns-2
+unfolding fieldTold
+returns-2 c = no-row-told _ _ (c .before .before .no-separator .ensures) _ _ _ (c .before .if1 .left) (c .if2 .taken)
+
+cast-walk : tie.Need-cast-walk
+cast-walk c =
+    let n = c .before .before in
+    omega (arith, separator-byte (n .before .before .args .separator) (n .no-separator .result) (n .no-separator .ensures) (c .before .if1 .left))
+
+walk-requires : tie.Need-walk-requires
+walk-requires c κs = search needs
+
+enum-told : tie.Need-enum-told
+enum-told c = search needs
+
+enum-known-fields : tie.Need-enum-known-fields
+enum-known-fields c = search needs
+
+returns-3 : tie.Need-returns-3
+unfolding fieldTold
+returns-3 c =
+    let w = c .before .before .before .before in
+    let n = w .before .before .before in
+    row-told _ _ (n .no-separator .ensures) _ _ _ (w .before .before .if1 .left) (w .before .if2 .left)
+    (past-told _ _ (sym (w .walk .ensures) ∙ c .before .before .fields .given .1) (c .if3 .taken))
+
+returns-4 : tie.Need-returns-4
+unfolding fieldTold
+returns-4 c =
+    let w = c .before .before in
+    let n = w .before .before .before in
+    row-told _ _ (n .no-separator .ensures) _ _ _ (w .before .before .if1 .left) (w .before .if2 .left)
+    (none-told _ _ (sym (w .walk .ensures) ∙ c .enum-told .given .1))
+
+returns-5 : tie.Need-returns-5
+unfolding fieldTold
+returns-5 c =
+    let w = c .before .before .before .before in
+    let n = w .before .before .before in
+    row-told _ _ (n .no-separator .ensures) _ _ _ (w .before .before .if1 .left) (w .before .if2 .left)
+    (found-told _ _ (sym (w .walk .ensures) ∙ c .before .before .fields .given .1) (c .if3 .left))
+
+pub field-spec : {M : Type 1} → statement M
+field-spec =
+    tie.close
+    (tie.spec
+    no-separator-requires
+    returns
+    returns-2
+    cast-walk
+    walk-requires
+    enum-told
+    enum-known-fields
+    returns-3
+    returns-4
+    returns-5)
