@@ -3,10 +3,11 @@ use mathlib.Core.Path.{_≡_, refl, sym, ap, ap₂, _∙_, subst}
 use mathlib.Core.Bool.{Bool, true, false, cond}
 use mathlib.Core.List.{List, [], _∷_}
 use Prim.Native.Nat.{ℕ, zero, suc, _+_, _-_, _≤_, _<_}
+use native.Mathlib.Nat.{add-sub-cancel-left}
 use native.Mathlib.Omega.{arith}
 use borrow.Author.Tests.{ltb-true}
 use lib.Dec.{ltb}
-use lib.ListN.{length}
+use lib.ListN.{length, take, drop}
 use Rattle.refusal.specs.Check.{Check, silent, refused}
 use Rattle.refusal.specs.Outcome.{Outcome, answered, absent, refusal, after}
 use Rattle.parts.proofs.Laws.{by-test}
@@ -17,7 +18,7 @@ use Rattle.refusal.specs.declared.Refusal.{Refusal}
 use Rattle.worklist.specs.declared.FieldAnswer.{FieldAnswer}
 use Rattle.worklist.specs.declared.FieldAnswer.the-variants as answer
 use Rattle.worklist.proofs.Rows.{field-forward, field-inside, separator-inside}
-use Rattle.worklist.specs.Rows.{fieldAt, Row, whole, malformed, inFront, separatorAt, separatorCheck, spanOf, rowStep, rowBy, rowAt, ofRow, spanValues, columnOf, fieldIn, fieldOutcome, placeOf, lengthOf, fieldTold}
+use Rattle.worklist.specs.Rows.{fieldAt, Row, whole, malformed, inFront, separatorAt, separatorCheck, spanOf, rowStep, rowBy, rowAt, ofRow, spanValues, columnOf, fieldIn, fieldOutcome, placeOf, lengthOf, fieldPart, fieldTold}
 
 -- The fields from a place on, up to where the row ends.
 pub data Fields (sep : ℕ) (t : List ℕ) : ℕ → List Span → ℕ → Type 0 where
@@ -107,6 +108,13 @@ pub record FoundAt (t : List ℕ) (told : Outcome) (f : Span) : Type 0 where
   pub place : placeOf told ≡ f .at
   pub size : lengthOf told ≡ f .length
   pub inside : f .at + f .length ≤ length t
+
+pub part-found : {t : List ℕ} {told : Outcome} {f : Span} → FoundAt t told f → take (f .at + f .length - f .at) (drop (f .at) t) ≡ fieldPart t told
+part-found {t} {told} {f} g =
+    ap₂ (λ n p. take n (drop p t)) (add-sub-cancel-left (f .at) (f .length) ∙ sym (g .size)) (sym (g .place))
+
+pub part-none : (t : List ℕ) (told : Outcome) → (placeOf told ≡ 0) × (lengthOf told ≡ 0) → [] ≡ fieldPart t told
+part-none t told e = sym (ap₂ (λ n p. take n (drop p t)) (e .1) (e .0))
 
 module _ (t : List ℕ) (at sep column : ℕ) (r : FieldAnswer) (told : fieldTold r ≡ fieldOutcome t at sep column) where
   pub found-at : {f : Span} → r ≡ answer.Found f → FoundAt t (fieldOutcome t at sep column) f

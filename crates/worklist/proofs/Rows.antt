@@ -61,10 +61,10 @@ module _ (sep : ℕ) (t : List ℕ) (at end : ℕ) (quoted : Bool) where
   by-closing (Behind place) q o e =
       by-test (endsField sep t place)
       (λ h.
-        let g : field.Whole place true ≡ field.Whole end quoted = rw h at e in
-        let same : place ≡ end = cc in
-        let yes : true ≡ quoted = cc in
-        record { opened = o; in-quotes = sym yes; closed = q ∙ ap Behind same; ended = ap (endsField sep t) (sym same) ∙ h })
+      let g : field.Whole place true ≡ field.Whole end quoted = rw h at e in
+      let same : place ≡ end = cc in
+      let yes : true ≡ quoted = cc in
+      record { opened = o; in-quotes = sym yes; closed = q ∙ ap Behind same; ended = ap (endsField sep t) (sym same) ∙ h })
       (λ h. let g : field.Faulty place ≡ field.Whole end quoted = rw h at e in absurd (let z : _≡_ {A = ℕ} 0 1 = cc in omega arith))
 
   pub field-cases : fieldAt sep t at ≡ field.Whole end quoted → Plain sep t at end quoted ⊎ Quoted sep t at end quoted
@@ -73,10 +73,10 @@ module _ (sep : ℕ) (t : List ℕ) (at end : ℕ) (quoted : Bool) where
       by-test (eqb (byteAt t at) quote)
       (λ h. inr (by-closing (closingAt t (at + 1)) refl (eqb-true _ _ h) (rw h at e)))
       (λ h.
-        let g : field.Whole (stopAt sep t at) false ≡ field.Whole end quoted = rw h at e in
-        let same : stopAt sep t at ≡ end = cc in
-        let no : false ≡ quoted = cc in
-        inl (record { no-quote = eqb-false _ _ h; unquoted = sym no; stop = same }))
+      let g : field.Whole (stopAt sep t at) false ≡ field.Whole end quoted = rw h at e in
+      let same : stopAt sep t at ≡ end = cc in
+      let no : false ≡ quoted = cc in
+      inl (record { no-quote = eqb-false _ _ h; unquoted = sym no; stop = same }))
 
   pub field-forward : fieldAt sep t at ≡ field.Whole end quoted → at ≤ end
   field-forward e =

@@ -1,7 +1,7 @@
 -- `worklist::field_part`: the part that is told.
-use mathlib.Core.Path.{sym, _∙_}
+use mathlib.Core.Path.{refl}
 use native.Mathlib.Omega.{arith}
-use Rattle.worklist.proofs.Fields.{found-at, absent-at, refused-at}
+use Rattle.worklist.proofs.Fields.{found-at, part-found, part-none, absent-at, refused-at}
 use borrow.Author.Needs.{needs}
 use Rattle.worklist.proofs.field_part.Statement.{statement}
 use Rattle.worklist.proofs.field_part.Tie as tie
@@ -57,13 +57,25 @@ part-result-end-3 : tie.Need-part-result-end-3
 part-result-end-3 c = search needs
 
 returns : tie.Need-returns
-returns c = ?
+returns c =
+    let f = c .before .before .before .before .before in
+    let a = f .before .before .args in
+    let g = found-at (a .text .now) (a .at) (a .separator) (a .column) (f .field .result) (f .field .ensures) (c .before .before .before .found .given .1) in
+    (part-found g, (refl, omega (arith, g .place)))
 
 returns-2 : tie.Need-returns-2
-returns-2 c = ?
+returns-2 c =
+    let f = c .before .before .before in
+    let a = f .before .before .args in
+    let g = absent-at (a .text .now) (a .at) (a .separator) (a .column) (f .field .result) (f .field .ensures) (c .before .enum-told .given .1) in
+    (part-none _ _ g, (refl, omega (arith, g .0)))
 
 returns-3 : tie.Need-returns-3
-returns-3 c = ?
+returns-3 c =
+    let f = c .before .before .before in
+    let a = f .before .before .args in
+    let g = refused-at (a .text .now) (a .at) (a .separator) (a .column) (f .field .result) (f .field .ensures) (c .before .enum-told2 .given .1) in
+    (part-none _ _ g, (refl, omega (arith, g .0)))
 
 pub field-part-spec : {M : Type 1} → statement M
 field-part-spec =

@@ -68,9 +68,11 @@ loop-less c =
     let e = c .before .before .before .before in
     let f = e .before .before in
     let a = f .before .before .before .args in
-    omega
-    (arith, separator-inside (a .separator) (a .text .now) (e .end .given .0 .0) (sym (c .before .separator-at .ensures) ∙ not-false _ (c .if1 .left)),
-    field-forward (a .separator) (a .text .now) (f .before .loop .from) (e .end .given .0 .0) (e .end .given .0 .1 .0) (sym (f .field-end .ensures) ∙ e .end .given .1))
+    omega (
+      arith,
+      separator-inside (a .separator) (a .text .now) (e .end .given .0 .0) (sym (c .before .separator-at .ensures) ∙ not-false _ (c .if1 .left)),
+      field-forward (a .separator) (a .text .now) (f .before .loop .from) (e .end .given .0 .0) (e .end .given .0 .1 .0) (sym (f .field-end .ensures) ∙ e .end .given .1),
+    )
 
 loop-again : tie.Need-loop-again Inv-loop μ-loop
 loop-again c =
