@@ -1,11 +1,82 @@
 // Worklists: separated text.
 use crate::answer::refused;
+use worklist::FieldAnswer;
+use worklist::RowAnswer;
+use worklist::Span;
 use worklist_unquoted::Written;
 ghost use mathlib.Core.Path.{_≡_};
 ghost use lib.ListN.{length};
 ghost use Rattle.refusal.specs.Output.{filled};
+ghost use Rattle.refusal.specs.Outcome.{answered};
+ghost use Rattle.worklist.specs.Rows.{rowOutcome, fieldOutcome, spanValues};
 ghost use Rattle.worklist_unquoted.specs.Unquoted.{contentOf, unquotedCheck, unquotedOutcome};
 ghost use Rattle.dwarnizza.specs.Answer.{result, answerWords};
+
+// The row that begins at a byte of a text: where it ends, where the next begins, the number of its fields; of a malformed one 1 and
+// the place in the last two words.
+#[no_mangle]
+pub extern "C" fn dwarnizza_worklist_row(
+    text: &[u8],
+    at: usize,
+    separator: u32,
+    answer: &mut [u64; 8],
+) -> u32
+    ensures { λ r. ⌜ r ≡ result (rowOutcome (now (text .entry)) at separator) ⌝ }
+    ensures { λ _. ⌜ now (answer .exit) ≡ answerWords (rowOutcome (now (text .entry)) at separator) ⌝ }
+{
+    match worklist::row(text, at, separator) {
+        RowAnswer::Refused(r) => refused(r, answer),
+        RowAnswer::Absent => {
+            *answer = [0u64; 8];
+            1
+        }
+        RowAnswer::Whole { end, next, fields } => {
+            *answer = [end as u64, next as u64, fields as u64, 0, 0, 0, 0, 0];
+            0
+        }
+        RowAnswer::Malformed { end, next, place } => {
+            *answer = [end as u64, next as u64, 0, 1, place as u64, 0, 0, 0];
+            0
+        }
+    }
+}
+
+// The words of a field.
+fn span_words(f: Span) -> [u64; 8]
+    ensures { λ r. ⌜ r ≡ answerWords (answered (spanValues f)) ⌝ }
+{
+    let at = f.at as u64;
+    let length = f.length as u64;
+    if f.quoted {
+        return [at, length, 1, 0, 0, 0, 0, 0];
+    }
+    [at, length, 0, 0, 0, 0, 0, 0]
+}
+
+// A field of a row by its column: its place and length with its quotes, and 1 where it is quoted.
+#[no_mangle]
+pub extern "C" fn dwarnizza_worklist_field(
+    text: &[u8],
+    at: usize,
+    separator: u32,
+    column: usize,
+    answer: &mut [u64; 8],
+) -> u32
+    ensures { λ r. ⌜ r ≡ result (fieldOutcome (now (text .entry)) at separator column) ⌝ }
+    ensures { λ _. ⌜ now (answer .exit) ≡ answerWords (fieldOutcome (now (text .entry)) at separator column) ⌝ }
+{
+    match worklist::field(text, at, separator, column) {
+        FieldAnswer::Refused(r) => refused(r, answer),
+        FieldAnswer::Absent => {
+            *answer = [0u64; 8];
+            1
+        }
+        FieldAnswer::Found(f) => {
+            *answer = span_words(f);
+            0
+        }
+    }
+}
 
 // The bytes that a field stands for, in the output: how many they are. A refusal leaves the output's bytes.
 #[no_mangle]
