@@ -6,10 +6,9 @@ use worklist::Span;
 use worklist_unquoted::Written;
 ghost use mathlib.Core.Path.{_≡_};
 ghost use lib.ListN.{length};
-ghost use Rattle.refusal.specs.Output.{filled};
 ghost use Rattle.refusal.specs.Outcome.{answered};
 ghost use Rattle.worklist.specs.Rows.{rowOutcome, fieldOutcome, spanValues};
-ghost use Rattle.worklist_unquoted.specs.Unquoted.{contentOf, unquotedCheck, unquotedOutcome};
+ghost use Rattle.worklist_unquoted.specs.Unquoted.{unquotedOutput, unquotedOutcome};
 ghost use Rattle.dwarnizza.specs.Answer.{result, answerWords};
 
 // The row that begins at a byte of a text: where it ends, where the next begins, the number of its fields; of a malformed one 1 and
@@ -86,7 +85,7 @@ pub extern "C" fn dwarnizza_worklist_unquoted(
     answer: &mut [u64; 8],
 ) -> u32
     ensures { λ r. ⌜ r ≡ result (unquotedOutcome (now (field .entry)) (length (now (output .entry)))) ⌝ }
-    ensures { λ _. ⌜ now (output .exit) ≡ filled (unquotedCheck (now (field .entry)) (length (now (output .entry)))) (contentOf (now (field .entry))) (now (output .entry)) ⌝ }
+    ensures { λ _. ⌜ now (output .exit) ≡ unquotedOutput (now (field .entry)) (now (output .entry)) ⌝ }
     ensures { λ _. ⌜ now (answer .exit) ≡ answerWords (unquotedOutcome (now (field .entry)) (length (now (output .entry)))) ⌝ }
 {
     match worklist_unquoted::unquoted(field, output) {

@@ -18,7 +18,7 @@ use Rattle.file_number.specs.declared.Told.{Told}
 use Rattle.file_number.specs.declared.Told.the-variants.{Number}
 use Rattle.file_number.specs.FileNumber as spec
 use Rattle.file_number.specs.FileNumber.{mostNumber, wrongAt, isDigit, digitsOf, fitting, boundedNumber, leadingZero, fileNumberOf, outcome}
-use Rattle.file_number.proofs.Laws.{digit-range, one-byte, other-byte, told-number}
+use Rattle.file_number.proofs.Laws.{Digit, digit-range, one-byte, other-byte, told-number}
 
 -- ---- numbers of digits
 
@@ -38,7 +38,9 @@ reads-long (d ∷ s) n m h =
 short : (s : List ℕ) (n : ℕ) → 1 ≤ n → reads n s ≤ mostNumber → length s < 20
 short s n h k =
     by-test (ltb (length s) 20) (ltb-true (length s) 20)
-    (λ e. absurd (omega (arith, reads-long s n 0 h, pow-le-pow-right {n = 10} (omega arith) {i = 20} {j = 0 + length s} (omega (arith, ltb-false (length s) 20 e)))))
+    (λ e.
+    let long : 20 ≤ 0 + length s = omega (arith, ltb-false (length s) 20 e) in
+    absurd (omega (arith, reads-long s n 0 h, pow-le-pow-right {n = 10} (omega arith) long)))
 
 -- where all digits fit, the number does, and where it does, they do
 fitting-most : (s : List ℕ) (n : ℕ) → n ≤ mostNumber → length s ≤ fitting n s → reads n s ≤ mostNumber
@@ -73,38 +75,46 @@ next-digit f n d h l m =
     rw (le-ltb (n * 10 + (d - 48)) 10 (omega arith), tenth, last)
 
 -- digits behind a number that is not 0
-digits-behind : (s : List ℕ) (n g : ℕ) → 1 ≤ n → ((i : ℕ) → i < length s → (48 ≤ byteAt s i) × (byteAt s i ≤ 57)) → decimalDigits (length s + g) (reads n s) ≡ decimalDigits g n ++ s
+digits-behind : (s : List ℕ) (n g : ℕ) → 1 ≤ n → ((i : ℕ) → i < length s → Digit (byteAt s i))
+    → decimalDigits (length s + g) (reads n s) ≡ decimalDigits g n ++ s
 unfolding reads
 digits-behind [] n g h r = rw (zero-add g) (sym (append-nil (decimalDigits g n)))
 digits-behind (d ∷ s) n g h r =
     let fuel : suc (length s) + g ≡ length s + suc g = omega arith in
-    let first : (48 ≤ d) × (d ≤ 57) = r 0 (omega arith) in
+    let first : Digit d = r 0 (omega arith) in
     rw fuel
     (digits-behind s (n * 10 + (d - 48)) (suc g) (omega arith) (λ i l. r (suc i) (omega arith))
     ∙ ap (λ a. a ++ s) (next-digit g n d h (first .0) (first .1))
     ∙ append-assoc (decimalDigits g n) (d ∷ []) s)
 
-decimal-text : (text : List ℕ) → 1 ≤ length text → leadingZero text ≡ false → length text ≤ digitsOf text → reads 0 text ≤ mostNumber → decimal (reads 0 text) ≡ text
+-- the first digit
+first-of : (f d : ℕ) → 1 ≤ f → Digit d → decimalDigits f (0 * 10 + (d - 48)) ≡ d ∷ []
+first-of f d h r =
+    let same : 48 + (0 * 10 + (d - 48)) ≡ d = omega arith in
+    one-digit f (0 * 10 + (d - 48)) h (omega arith) ∙ ap (λ x. x ∷ []) same
+
+not-zero : (d : ℕ) → Digit d → eqb d 48 ≡ false → 1 ≤ 0 * 10 + (d - 48)
+not-zero d r e = by-test (ltb d 49) (λ t. absurd (eqb-false d 48 e (omega (arith, ltb-true d 49 t)))) (λ t. omega (arith, ltb-false d 49 t))
+
+decimal-text : (text : List ℕ) → 1 ≤ length text → leadingZero text ≡ false → length text ≤ digitsOf text → reads 0 text ≤ mostNumber
+    → decimal (reads 0 text) ≡ text
 unfolding reads
 decimal-text [] h z l m = absurd (not-suc-le-zero h)
-decimal-text (d ∷ []) h z l m =
-    let first : (48 ≤ d) × (d ≤ 57) = digit-range (d ∷ []) l 0 (omega arith) in
-    let n : 48 + (0 * 10 + (d - 48)) ≡ d = omega (arith, first) in
-    one-digit 20 (0 * 10 + (d - 48)) (omega arith) (omega (arith, first)) ∙ ap (λ x. x ∷ []) n
+decimal-text (d ∷ []) h z l m = first-of 20 d (omega arith) (digit-range (d ∷ []) l 0 (omega arith))
 decimal-text (d ∷ e ∷ s) h z l m =
     let range = digit-range (d ∷ e ∷ s) l in
-    let first : (48 ≤ d) × (d ≤ 57) = range 0 (omega arith) in
-    let some : eqb d 48 ≡ false = rw (lt-ltb 1 (suc (suc (length s))) (omega arith)) at z in
-    let other : 1 ≤ 0 * 10 + (d - 48) = by-test (ltb d 49) (λ t. absurd (eqb-false d 48 some (omega (arith, first, ltb-true d 49 t)))) (λ t. omega (arith, first, ltb-false d 49 t)) in
-    let few : length (e ∷ s) < 20 = short (e ∷ s) (0 * 10 + (d - 48)) other m in
-    let fuel : length (e ∷ s) + (20 - length (e ∷ s)) ≡ 20 = omega arith in
-    let n : 48 + (0 * 10 + (d - 48)) ≡ d = omega (arith, first) in
-    ap (λ f. decimalDigits f (reads (0 * 10 + (d - 48)) (e ∷ s))) (sym fuel)
-    ∙ digits-behind (e ∷ s) (0 * 10 + (d - 48)) (20 - length (e ∷ s)) other (λ i k. range (suc i) (omega arith))
-    ∙ ap (λ a. a ++ (e ∷ s)) (one-digit (20 - length (e ∷ s)) (0 * 10 + (d - 48)) (omega arith) (omega (arith, first)) ∙ ap (λ x. x ∷ []) n)
+    let n = 0 * 10 + (d - 48) in
+    let g = 20 - length (e ∷ s) in
+    let other : 1 ≤ n = not-zero d (range 0 (omega arith)) (rw (lt-ltb 1 (suc (suc (length s))) (omega arith)) at z) in
+    let few : length (e ∷ s) < 20 = short (e ∷ s) n other m in
+    let fuel : length (e ∷ s) + g ≡ 20 = omega arith in
+    ap (λ f. decimalDigits f (reads n (e ∷ s))) (sym fuel)
+    ∙ digits-behind (e ∷ s) n g other (λ i k. range (suc i) (omega arith))
+    ∙ ap (λ a. a ++ (e ∷ s)) (first-of g d (omega arith) (range 0 (omega arith)))
 
 -- a number is told where each test is passed
-passed : (b : Bool) (what place : ℕ) (o : Outcome) (values : List ℕ) → cond b (wrongAt what place) o ≡ answered values → (b ≡ false) × (o ≡ answered values)
+passed : (b : Bool) (what place : ℕ) (o : Outcome) (values : List ℕ) → cond b (wrongAt what place) o ≡ answered values
+    → (b ≡ false) × (o ≡ answered values)
 passed true what place o values e = absurd (let z : _≡_ {A = ℕ} 0 1 = cc in omega arith)
 passed false what place o values e = (refl, e)
 
@@ -115,13 +125,15 @@ written text n e =
     let b = passed (leadingZero text) _ _ _ _ (a .1) in
     let d = passed (ltb (digitsOf text) (length text)) _ _ _ _ (b .1) in
     let f = passed (ltb (fitting 0 text) (length text)) _ _ _ _ (d .1) in
+    let digits = ltb-false (digitsOf text) (length text) (d .0) in
     let most = fitting-most text 0 (omega arith) (ltb-false (fitting 0 text) (length text) (f .0)) in
     let same : reads 0 text ≡ n = let h = f .1 in cc in (
-      ap decimal (sym same) ∙ decimal-text text (ltb-false (length text) 1 (a .0)) (b .0) (ltb-false (digitsOf text) (length text) (d .0)) most,
+      ap decimal (sym same) ∙ decimal-text text (ltb-false (length text) 1 (a .0)) (b .0) digits most,
       subst (λ m. m ≤ mostNumber) same most,
     )
 
-pub told-written : (r : Told) (text : List ℕ) → outcome r ≡ fileNumberOf text → (n : ℕ) → r ≡ Number n → (decimal n ≡ text) × (n ≤ mostNumber)
+pub told-written : (r : Told) (text : List ℕ) → outcome r ≡ fileNumberOf text → (n : ℕ) → r ≡ Number n
+    → (decimal n ≡ text) × (n ≤ mostNumber)
 unfolding outcome
 told-written r text e n h = written text n (sym e ∙ ap outcome h)
 
@@ -147,12 +159,17 @@ all-digits : (f n : ℕ) → length (decimalDigits f n) ≤ digitsOf (decimalDig
 unfolding decimalDigits
 all-digits zero n = omega arith
 all-digits (suc f) n =
-    digits-append (cond (ltb n 10) [] (decimalDigits f (n / 10))) ((48 + n % 10) ∷ []) (none-or (ltb n 10) (decimalDigits f (n / 10)) (all-digits f (n / 10))) (last-digit n)
+    let before = decimalDigits f (n / 10) in
+    digits-append (cond (ltb n 10) [] before) ((48 + n % 10) ∷ []) (none-or (ltb n 10) before (all-digits f (n / 10))) (last-digit n)
 
 some-digit : (f n : ℕ) → 1 ≤ f → 1 ≤ length (decimalDigits f n)
 unfolding decimalDigits
 some-digit zero n h = absurd (not-suc-le-zero h)
 some-digit (suc f) n h = rw (length-append (cond (ltb n 10) [] (decimalDigits f (n / 10))) ((48 + n % 10) ∷ [])) (omega arith)
+
+some-fuel : (f n : ℕ) → 1 ≤ n → n < 10 ^ f → 1 ≤ f
+some-fuel zero n h l = absurd (omega arith)
+some-fuel (suc f) n h l = omega arith
 
 -- the first digit of a number that is not 0
 first-digit : (f n : ℕ) → 1 ≤ n → n < 10 ^ f → byteAt (decimalDigits f n) 0 ≡ 48 → ⊥
@@ -163,17 +180,15 @@ first-digit (suc f) n h l e =
     (λ t.
     let more : 10 ≤ n = ltb-false n 10 t in
     let tenth : n / 10 < 10 ^ f = omega (arith, pow-suc 10 f) in
-    let one : 1 ≤ f = by-test (ltb f 1) (λ u. absurd (omega (arith, tenth, ap (λ k. 10 ^ k) (zero-of f (ltb-true f 1 u))))) (ltb-false f 1) in
+    let one : 1 ≤ f = some-fuel f (n / 10) (omega arith) tenth in
     let there : 0 < length (decimalDigits f (n / 10)) = some-digit f (n / 10) one in
     first-digit f (n / 10) (omega arith) tenth (sym (List·getD-append (decimalDigits f (n / 10)) _ 0 0 there) ∙ rw t at e))
-  where
-    zero-of : (f : ℕ) → f < 1 → f ≡ 0
-    zero-of f h = omega arith
 
 no-leading-zero : (n : ℕ) → n ≤ mostNumber → leadingZero (decimal n) ≡ false
 unfolding decimalDigits
 no-leading-zero n h =
-    by-test (ltb n 10) (λ t. one-byte (decimal n) (rw t (omega arith))) (λ t. other-byte (decimal n) (first-digit 20 n (omega (arith, ltb-false n 10 t)) (omega arith)))
+    by-test (ltb n 10) (λ t. one-byte (decimal n) (rw t (omega arith)))
+    (λ t. other-byte (decimal n) (first-digit 20 n (omega (arith, ltb-false n 10 t)) (omega arith)))
 
 pub read-back : (n : ℕ) → n ≤ mostNumber → fileNumberOf (decimal n) ≡ answered (n ∷ [])
 unfolding boundedNumber

@@ -15,12 +15,16 @@ use Rattle.parts.proofs.Laws.{by-test}
 use Rattle.field.proofs.Laws.{within-range}
 use Rattle.refusal.specs.Outcome.{answered}
 use Rattle.text.specs.Text.{reads}
-use Rattle.file_number.specs.FileNumber.{mostNumber, empty, leading-zero, no-digit, too-great, wrongAt, isDigit, digitsOf, fitting, boundedNumber, leadingZero, fileNumberOf}
+use Rattle.file_number.specs.FileNumber.{mostNumber, empty, leading-zero, no-digit, too-great, wrongAt}
+use Rattle.file_number.specs.FileNumber.{isDigit, digitsOf, fitting, boundedNumber, leadingZero, fileNumberOf}
 
 pub behind : (text : List ℕ) (at : ℕ) → at < length text → drop at text ≡ byteAt text at ∷ drop (at + 1) text
 behind text at l = rw add-one (drop-cons text at 0 l)
 
 -- ---- digits
+
+abbrev pub Digit : ℕ → Type 0
+Digit b = (48 ≤ b) × (b ≤ 57)
 
 -- The bytes before a place are digits.
 pub record Digits (text : List ℕ) (at : ℕ) : Type 0 where
@@ -43,7 +47,7 @@ module _ {text : List ℕ} {at : ℕ} (d : Digits text at) where
   unfolding digitsOf
   digits-all h = sym (d .count ∙ rw (drop-of-length-le text h) (add-zero at))
 
-pub digit-range : (text : List ℕ) → length text ≤ digitsOf text → (i : ℕ) → i < length text → (48 ≤ byteAt text i) × (byteAt text i ≤ 57)
+pub digit-range : (text : List ℕ) → length text ≤ digitsOf text → (i : ℕ) → i < length text → Digit (byteAt text i)
 unfolding digitsOf
 digit-range [] h i l = absurd (not-suc-le-zero l)
 digit-range (b ∷ text) h zero l = by-test (isDigit b) (λ e. within-range 48 57 b e) (λ e. absurd (not-suc-le-zero (rw e at h)))

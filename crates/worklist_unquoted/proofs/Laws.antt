@@ -17,7 +17,7 @@ use Rattle.refusal.specs.Outcome.{answered, refusal}
 use Rattle.refusal.specs.Output.{filled}
 use Rattle.refusal.specs.Number.{output-short}
 use Rattle.refusal.proofs.Laws.{said, quiet, after-said, after-quiet}
-use Rattle.worklist_unquoted.specs.Unquoted.{quote, closes, isWhole, undoubled, stepOf, contentOf, unquotedCheck, unquotedOutcome}
+use Rattle.worklist_unquoted.specs.Unquoted.{quote, closes, isWhole, undoubled, stepOf, contentOf, unquotedCheck, unquotedOutcome, unquotedOutput}
 
 pub behind : (s : List ℕ) (at : ℕ) → at < length s → drop at s ≡ byteAt s at ∷ drop (at + 1) s
 behind s at l = rw add-one (drop-cons s at 0 l)
@@ -72,13 +72,15 @@ step-to true s at =
     skipped (drop (at + 1) s) ∙ ap (undoubled false) (drop-drop 1 (at + 1) s ∙ ap (λ n. drop n s) two)
 step-to false s at = refl
 
-undoubled-step : (s : List ℕ) (at : ℕ) → at < length s → undoubled false (drop at s) ≡ byteAt s at ∷ undoubled false (drop (at + stepOf (byteAt s at)) s)
+undoubled-step : (s : List ℕ) (at : ℕ) → at < length s
+    → undoubled false (drop at s) ≡ byteAt s at ∷ undoubled false (drop (at + stepOf (byteAt s at)) s)
 unfolding undoubled
 undoubled-step s at l = rw (behind s at l) (ap (λ r. byteAt s at ∷ r) (step-to (eqb (byteAt s at) quote) s at))
 
 pub step-range : (b n : ℕ) → n ≡ stepOf b → (1 ≤ n) × (n ≤ 2)
 step-range b n h =
-    by-test (eqb b quote) (λ e. let two : n ≡ 2 = rw e at h in (omega arith, omega arith)) (λ e. let one : n ≡ 1 = rw e at h in (omega arith, omega arith))
+    by-test (eqb b quote) (λ e. let two : n ≡ 2 = rw e at h in (omega arith, omega arith))
+    (λ e. let one : n ≡ 1 = rw e at h in (omega arith, omega arith))
 
 -- The bytes before a place stand in the output, each doubled quote as one.
 pub record Put (bytes before output : List ℕ) (to at : ℕ) : Type 0 where
@@ -121,7 +123,8 @@ module _ {bytes before output : List ℕ} {to at : ℕ} (p : Put bytes before ou
 
 -- ---- the content
 
-pub whole-content : (field part : List ℕ) (n : ℕ) → isWhole field ≡ true → part ≡ partAt field 1 n → n ≡ length field - 2 → undoubled false part ≡ contentOf field
+pub whole-content : (field part : List ℕ) (n : ℕ) → isWhole field ≡ true → part ≡ partAt field 1 n → n ≡ length field - 2
+    → undoubled false part ≡ contentOf field
 unfolding contentOf
 whole-content field part n w p h = rw (w, p, h)
 
@@ -130,14 +133,14 @@ unfolding contentOf
 plain-content field w = rw w
 
 module _ (field out : List ℕ) (count : ℕ) (e : count ≡ length (contentOf field)) where
-  pub told-short : length out < count → (refusal output-short 0 ≡ unquotedOutcome field (length out)) × (out ≡ filled (unquotedCheck field (length out)) (contentOf field) out)
+  pub told-short : length out < count → (refusal output-short 0 ≡ unquotedOutcome field (length out)) × (out ≡ unquotedOutput field out)
   unfolding filled
   told-short h =
       let k : unquotedCheck field (length out) ≡ refused output-short 0 = said refl (lt-ltb (length out) (length (contentOf field)) (omega arith)) in
       (sym (after-said _ k), sym (ap (λ t. filled t (contentOf field) out) k))
 
   pub told-written : (after : List ℕ) → count ≤ length out → after ≡ overlay out 0 (contentOf field)
-      → (answered (count ∷ []) ≡ unquotedOutcome field (length out)) × (after ≡ filled (unquotedCheck field (length out)) (contentOf field) out)
+      → (answered (count ∷ []) ≡ unquotedOutcome field (length out)) × (after ≡ unquotedOutput field out)
   unfolding filled
   told-written after h o =
       let k : unquotedCheck field (length out) ≡ silent = quiet output-short 0 refl (le-ltb (length out) (length (contentOf field)) (omega arith)) in

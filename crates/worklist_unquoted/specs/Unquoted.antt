@@ -8,7 +8,7 @@ use lib.ListN.{length, drop}
 use Rattle.parts.specs.Part.{byteAt, partAt}
 use Rattle.refusal.specs.Check.{Check}
 use Rattle.refusal.specs.Outcome.{Outcome, answered, refusal, after}
-use Rattle.refusal.specs.Output.{roomCheck}
+use Rattle.refusal.specs.Output.{roomCheck, filled}
 use Rattle.worklist_unquoted.specs.declared.Written.{Written}
 use Rattle.worklist_unquoted.specs.declared.Written.the-variants.{Bytes, Refused}
 
@@ -49,6 +49,10 @@ contentOf field = cond (isWhole field) (undoubled false (between field)) field
 -- 13: the output is shorter (rule D8).
 abbrev pub unquotedCheck : List ℕ → ℕ → Check
 unquotedCheck field room = roomCheck (length (contentOf field)) room
+
+-- What the output holds at the end (rule D8).
+abbrev pub unquotedOutput : (field output : List ℕ) → List ℕ
+unquotedOutput field output = filled (unquotedCheck field (length output)) (contentOf field) output
 
 -- What unquoting tells: the bytes written.
 unfoldable pub outcome : Written → Outcome

@@ -10,7 +10,6 @@ ghost use mathlib.Core.Bool.{false};
 ghost use Prim.Native.Nat.{_+_, _^_, _<_};
 ghost use lib.ListN.{length};
 ghost use Rattle.parts.specs.Part.{overlay};
-ghost use Rattle.refusal.specs.Output.{filled};
 ghost use Rattle.worklist_unquoted.specs.Unquoted as spec;
 
 const QUOTE: u8 = 34;
@@ -83,7 +82,7 @@ fn put(field: &[u8], output: &mut [u8]) -> usize
 // Writes the bytes that a field stands for. They are measured by putting them where there is no room.
 pub fn unquoted(field: &[u8], output: &mut [u8]) -> Written
     ensures { λ r. ⌜ spec.outcome r ≡ spec.unquotedOutcome (now (field .entry)) (length (now (output .entry))) ⌝ }
-    ensures { λ _. ⌜ now (output .exit) ≡ filled (spec.unquotedCheck (now (field .entry)) (length (now (output .entry)))) (spec.contentOf (now (field .entry))) (now (output .entry)) ⌝ }
+    ensures { λ _. ⌜ now (output .exit) ≡ spec.unquotedOutput (now (field .entry)) (now (output .entry)) ⌝ }
 {
     let mut no_room = [0u8; 0];
     let count = put(field, &mut no_room);

@@ -32,7 +32,8 @@ returns-3 : tie.Need-returns-3
 returns-3 c =
     let text = c .before .before .before .before .before .before .args .text .now in
     let end = c .before .before .digits .ensures in
-    let e = c .wrong3 .ensures ∙ ap (wrongAt no-digit) end ∙ told-other text (search needs) (no-zero (c .before .before .before)) (rw end at (c .before .if4 .taken)) in
+    let more = rw end at (c .before .if4 .taken) in
+    let e = c .wrong3 .ensures ∙ ap (wrongAt no-digit) end ∙ told-other text (search needs) (no-zero (c .before .before .before)) more in
     (e, told-written _ text e)
 
 number-requires : tie.Need-number-requires

@@ -12,20 +12,24 @@ use Rattle.worklist_unquoted.proofs.put.Tie as tie
 put-undoubled-requires : tie.Need-put-undoubled-requires
 put-undoubled-requires c κs =
     let a = c .before .before .before .before .before .before .before .args in
-    omega (arith, ap length (c .before .part .ensures), partAt-length (a .field .now) 1 (c .before .before .rest .result), c .before .before .rest .ensures)
+    let rest = c .before .before .rest in
+    omega (arith, ap length (c .before .part .ensures), partAt-length (a .field .now) 1 (rest .result), rest .ensures)
 
 returns : tie.Need-returns
 returns c =
-    let a = c .before .before .before .before .before .before .before .before .before .before .args in
     let p = c .before .before .put-undoubled in
-    let part = c .before .before .before .before .part in
-    let e = whole-content (a .field .now) _ _ (sym (c .before .before .before .before .before .before .before .whole .ensures) ∙ c .before .before .before .before .before .before .if1 .taken) (part .ensures) (c .before .before .before .before .before .rest .ensures) in
+    let part = c .before .before .before .before in
+    let then = part .before .before in
+    let a = then .before .before .before .before .args in
+    let quoted = sym (then .before .whole .ensures) ∙ then .if1 .taken in
+    let e = whole-content (a .field .now) _ _ quoted (part .part .ensures) (part .before .rest .ensures) in
     (p .ensures .0 ∙ ap length e, p .ensures .1 ∙ ap (overlay (a .output .now) 0) e)
 
 returns-2 : tie.Need-returns-2
 returns-2 c =
-    let a = c .before .before .before .before .before .before .before .before .args in
-    let e = plain-content (a .field .now) (sym (c .before .before .before .before .before .whole .ensures) ∙ c .before .before .before .before .if1 .left) in
+    let else = c .before .before .before .before in
+    let a = else .before .before .before .before .args in
+    let e = plain-content (a .field .now) (sym (else .before .whole .ensures) ∙ else .if1 .left) in
     (ap length e, c .before .before .copy .ensures ∙ ap (overlay (a .output .now) 0) e)
 
 pub put-spec : {M : Type 1} → statement M

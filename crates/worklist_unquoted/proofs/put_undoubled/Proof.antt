@@ -17,22 +17,23 @@ abbrev μ-loop : tie.MeasureT-loop
 loop-holds : tie.Need-loop-holds Inv-loop μ-loop
 loop-holds c = put-none _ _
 
+abbrev turn : tie.After-step Inv-loop μ-loop → tie.At-loop Inv-loop μ-loop
+turn c = let read = c .before .before .before .before .before .before in read .before .before
+
 range : (c : tie.After-step Inv-loop μ-loop) → (1 ≤ c .step .result) × (c .step .result ≤ 2)
 range c =
-    let l = c .before .before .before .before .before .before .before .before .loop in
-    let a = c .before .before .before .before .before .before .before .before .before .before .before .args in
-    step-range (byteAt (a .bytes .now) (l .at)) (c .step .result) (c .step .ensures)
+    let bytes = turn c .before .before .before .args .bytes .now in
+    step-range (byteAt bytes (turn c .loop .at)) (c .step .result) (c .step .ensures)
 
 add-at : tie.Need-add-at Inv-loop μ-loop
-add-at c = omega (arith, range c, c .before .before .before .before .before .before .before .before .before .before .before .pre)
+add-at c = omega (arith, range c, turn c .before .before .before .pre)
 
 loop-less : tie.Need-loop-less Inv-loop μ-loop
 loop-less c = omega (arith, range c)
 
 loop-again : tie.Need-loop-again Inv-loop μ-loop
 loop-again c =
-    let l = c .before .before .before .before .before .before .before .before .loop in
-    put-next (l .inv) _ _ (search needs) (c .before .before .before .copy .ensures) (c .step .ensures)
+    put-next (turn c .loop .inv) _ _ (search needs) (c .before .before .before .copy .ensures) (c .step .ensures)
 
 same-length : tie.Need-same-length Inv-loop μ-loop
 same-length c = put-length (c .before .loop .inv)

@@ -14,9 +14,10 @@ returns c =
 returns-2 : tie.Need-returns-2
 unfolding outcome
 returns-2 c =
-    let a = c .before .before .before .before .before .before .before .before .before .before .args in
-    let count = c .before .before .before .before .before .before .put .ensures .0 in
-    told-written (a .field .now) (a .output .now) _ count _ (c .before .before .before .before .if1 .left) (c .before .before .put2 .ensures .1)
+    let room = c .before .before .before .before in
+    let put = room .before .before in
+    let a = put .before .before .before .before .args in
+    told-written (a .field .now) (a .output .now) _ (put .put .ensures .0) _ (room .if1 .left) (c .before .before .put2 .ensures .1)
 
 pub unquoted-spec : {M : Type 1} → statement M
 unquoted-spec =

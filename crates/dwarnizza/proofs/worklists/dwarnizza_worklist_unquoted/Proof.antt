@@ -9,14 +9,18 @@ use Rattle.dwarnizza.proofs.worklists.dwarnizza_worklist_unquoted.Tie a
 returns : tie.Need-returns
 unfolding outcome
 returns c =
-    let e = sym (ap outcome (c .before .before .before .r .given .1)) ∙ c .before .before .before .before .before .before .before .unquoted .ensures .0 in
-    (c .refused .ensures .0 ∙ ap result e, (c .before .before .before .before .before .before .before .unquoted .ensures .1, c .refused .ensures .1 ∙ ap answerWords e))
+    let told = c .before .before .before in
+    let u = told .before .before .before .before .unquoted in
+    let e = sym (ap outcome (told .r .given .1)) ∙ u .ensures .0 in
+    (c .refused .ensures .0 ∙ ap result e, (u .ensures .1, c .refused .ensures .1 ∙ ap answerWords e))
 
 returns-2 : tie.Need-returns-2
 unfolding outcome result answerWords
 returns-2 c =
-    let e = sym (ap outcome (c .before .before .bytes .given .1)) ∙ c .before .before .before .before .before .before .unquoted .ensures .0 in
-    (ap result e, (c .before .before .before .before .before .before .unquoted .ensures .1, ap answerWords e))
+    let told = c .before .before in
+    let u = told .before .before .before .before .unquoted in
+    let e = sym (ap outcome (told .bytes .given .1)) ∙ u .ensures .0 in
+    (ap result e, (u .ensures .1, ap answerWords e))
 
 pub dwarnizza-worklist-unquoted-spec : {M : Type 1} → statement M
 dwarnizza-worklist-unquoted-spec =
