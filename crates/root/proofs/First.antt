@@ -33,28 +33,28 @@ use Rattle.root.specs.declared.Answer.{Answer}
 -- ---- one record
 
 module _ (want : Record → Bool) (r : Record) (rest : List Record) where
-  not-wanted : want r ≡ false → foundIn want (r ∷ rest) ≡ foundIn want rest
+  pub not-wanted : want r ≡ false → foundIn want (r ∷ rest) ≡ foundIn want rest
   unfolding foundIn
   not-wanted e = ap (λ t. cond t (answered (r .key ∷ [])) (foundIn want rest)) e
 
-  is-wanted : want r ≡ true → foundIn want (r ∷ rest) ≡ answered (r .key ∷ [])
+  pub is-wanted : want r ≡ true → foundIn want (r ∷ rest) ≡ answered (r .key ∷ [])
   unfolding foundIn
   is-wanted e = ap (λ t. cond t (answered (r .key ∷ [])) (foundIn want rest)) e
 
-other-id : (id : ℕ) (z : ℤ) → (ofZ w64 z ≡ id → ⊥) → isId id z ≡ false
+pub other-id : (id : ℕ) (z : ℤ) → (ofZ w64 z ≡ id → ⊥) → isId id z ≡ false
 unfolding isId
 other-id id (pos n) e = ne-eqb n id e
 other-id id (negsuc n) e = refl
 
-same-id : (id : ℕ) (z : ℤ) → inRange z ≡ true → ofZ w64 z ≡ id → isId id z ≡ true
+pub same-id : (id : ℕ) (z : ℤ) → inRange z ≡ true → ofZ w64 z ≡ id → isId id z ≡ true
 unfolding isId inRange
 same-id id (pos n) r e = eq-eqb n id e
 same-id id (negsuc n) r e = absurd (false≢true r)
 
-both : (t u : Bool) → t ≡ true → u ≡ true → (t && u) ≡ true
+pub both : (t u : Bool) → t ≡ true → u ≡ true → (t && u) ≡ true
 both t u p q = rw (p, q)
 
-second : (t u : Bool) → u ≡ false → (t && u) ≡ false
+pub second : (t u : Bool) → u ≡ false → (t && u) ≡ false
 second true u q = q
 second false u q = refl
 
@@ -87,30 +87,52 @@ passing-all {s} {l} {id} {locale} {unwanted} {at} {n} {i} p e tail =
     let nothing : n - i ≡ 0 = omega arith in
     p .none tail ∙ ap (λ m. foundIn (wanted id locale unwanted) (recordsFrom s l at i m ++ tail)) nothing
 
-module _ {s : List ℕ} {l : Layout} {id locale unwanted at n i last : ℕ}
-    (p : Passing s l id locale unwanted at n i last)
+-- the id of record i, as the code reckons it from the one before
+module _ (s : List ℕ) (l : Layout) (at n i last : ℕ)
+    (before : toZ w64 last ≡ idBefore (deltasOf l (drop at s)) i)
     (e : blockCheck l (drop at s) at ≡ silent) (c : n ≡ blockOf l (drop at s) .count) (h : i < n)
     (r : ℤ) (small : mag r < 2147483648) where
   near : mag (toZ w64 last) ≤ mostId
   near =
-      subst (λ z. mag z ≤ mostId) (sym (p .before))
+      subst (λ z. mag z ≤ mostId) (sym before)
       (before-near (deltasOf l (drop at s)) (blockOf l (drop at s) .count) at (block-ids l (drop at s) at e) i (omega arith))
 
   room : mostId + 2147483648 < 2 ^ 63
   room = omega arith
 
-  pub last-fits : SFits w64 (toZ w64 last +ℤ pos 1)
-  last-fits = one-fits last r mostId near room small
+  pub before-fits : SFits w64 (toZ w64 last +ℤ pos 1)
+  before-fits = one-fits last r mostId near room small
 
-  pub next-fits : SFits w64 (reckoned last r)
-  next-fits = reckoned-fits last r mostId near room small
+  pub record-fits : SFits w64 (reckoned last r)
+  record-fits = reckoned-fits last r mostId near room small
+
+  pub record-in-range : inRange (idAt (deltasOf l (drop at s)) i) ≡ true
+  record-in-range = id-in-range (deltasOf l (drop at s)) (blockOf l (drop at s) .count) at (block-ids l (drop at s) at e) i (omega arith)
 
   module _ (q : r ≡ deltaAt (deltasOf l (drop at s)) i) where
-    next-is : reckoned last r ≡ idAt (deltasOf l (drop at s)) i
+    pub next-is : reckoned last r ≡ idAt (deltasOf l (drop at s)) i
     next-is =
         reckoned-is last r mostId near room small
-        ∙ ap₂ (λ x y. x +ℤ pos 1 +ℤ y) (p .before) q
+        ∙ ap₂ (λ x y. x +ℤ pos 1 +ℤ y) before q
         ∙ sym (id-next (deltasOf l (drop at s)) i)
+
+    pub next-before : toZ w64 (ofZ w64 (reckoned last r)) ≡ idBefore (deltasOf l (drop at s)) (i + 1)
+    unfolding idBefore
+    next-before = toZ-ofZ record-fits ∙ next-is ∙ ap (idBefore (deltasOf l (drop at s))) (sym (add-one i))
+
+module _ {s : List ℕ} {l : Layout} {id locale unwanted at n i last : ℕ}
+    (p : Passing s l id locale unwanted at n i last)
+    (e : blockCheck l (drop at s) at ≡ silent) (c : n ≡ blockOf l (drop at s) .count) (h : i < n)
+    (r : ℤ) (small : mag r < 2147483648) where
+  pub last-fits : SFits w64 (toZ w64 last +ℤ pos 1)
+  last-fits = before-fits s l at n i last (p .before) e c h r small
+
+  pub next-fits : SFits w64 (reckoned last r)
+  next-fits = record-fits s l at n i last (p .before) e c h r small
+
+  module _ (q : r ≡ deltaAt (deltasOf l (drop at s)) i) where
+    is-next : reckoned last r ≡ idAt (deltasOf l (drop at s)) i
+    is-next = next-is s l at n i last (p .before) e c h r small q
 
     here : (tail : List Record) → foundIn (wanted id locale unwanted) (recordsFrom s l at 0 n ++ tail)
         ≡ foundIn (wanted id locale unwanted) (recordAt s l at i ∷ recordsFrom s l at (i + 1) (n - (i + 1)) ++ tail)
@@ -123,11 +145,11 @@ module _ {s : List ℕ} {l : Layout} {id locale unwanted at n i last : ℕ}
         ∙ ap (λ j. foundIn (wanted id locale unwanted) (recordAt s l at i ∷ recordsFrom s l at j (n - (i + 1)) ++ tail)) one
 
     pub passing-next : (ofZ w64 (reckoned last r) ≡ id → ⊥) → Passing s l id locale unwanted at n (i + 1) (ofZ w64 (reckoned last r))
-    unfolding recordAt wanted idBefore
+    unfolding recordAt wanted
     passing-next other =
-        let not-this = second (counts locale unwanted (blockOf l (drop at s))) (isId id (idAt (deltasOf l (drop at s)) i)) (other-id id _ (λ g. other (ap (ofZ w64) next-is ∙ g))) in
+        let not-this = second (counts locale unwanted (blockOf l (drop at s))) (isId id (idAt (deltasOf l (drop at s)) i)) (other-id id _ (λ g. other (ap (ofZ w64) is-next ∙ g))) in
         record {
-          before = toZ-ofZ next-fits ∙ next-is ∙ ap (idBefore (deltasOf l (drop at s))) (sym (add-one i));
+          before = next-before s l at n i last (p .before) e c h r small q;
           none = λ tail. here tail ∙ not-wanted (wanted id locale unwanted) (recordAt s l at i) _ not-this;
         }
 
@@ -137,7 +159,7 @@ module _ {s : List ℕ} {l : Layout} {id locale unwanted at n i last : ℕ}
     passing-found t same tail =
         here tail
         ∙ is-wanted (wanted id locale unwanted) (recordAt s l at i) _
-        (both _ _ t (same-id id _ (id-in-range (deltasOf l (drop at s)) (blockOf l (drop at s) .count) at (block-ids l (drop at s) at e) i (omega arith)) (ap (ofZ w64) (sym next-is) ∙ same)))
+        (both _ _ t (same-id id _ (record-in-range s l at n i last (p .before) e c h r small) (ap (ofZ w64) (sym is-next) ∙ same)))
 
 -- ---- block after block
 

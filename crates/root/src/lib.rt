@@ -47,7 +47,7 @@ fn check_blocks(file: &[u8], l: Layout) -> Verdict
 }
 
 // The check of a whole file, and how its blocks are laid out.
-fn judge(file: &[u8]) -> Opened
+pub fn judge(file: &[u8]) -> Opened
     ensures { λ r. ⌜ header.outcome r ≡ spec.judgedOutcome (now (file .entry)) ⌝ }
 {
     let opened = root_layout::open(file);

@@ -1,0 +1,39 @@
+-- The entries in the output while it is filled: what private functions require and ensure; no rule of its own.
+use mathlib.Core.Path.{_≡_}
+use mathlib.Core.Bool.{_&&_, cond}
+use mathlib.Core.List.{List, [], _∷_}
+use Prim.Native.Nat.{ℕ, _*_, _<_, _≤_}
+use lib.Dec.{eqb}
+use lib.ListN.{length, drop}
+use Rattle.parts.specs.Part.{byteAt, partAt}
+use Rattle.refusal.specs.Outcome.{answered}
+use Rattle.root.specs.Lookup.{Record, wanted, foundIn}
+use Rattle.root_find_many.specs.Many.{entrySize, idCount, idAt, entryFor}
+
+abbrev pub entryAt : List ℕ → ℕ → List ℕ
+entryAt out j = partAt out (j * entrySize) entrySize
+
+-- The output has an entry for each id.
+pub record Room (ids out : List ℕ) : Type 0 where
+  pub room : entrySize * idCount ids ≤ length out
+
+-- Each id's entry is what f gives for it.
+pub record Held (ids out : List ℕ) (f : ℕ → List ℕ) : Type 0 where
+  pub each : (j : ℕ) → j < idCount ids → entryAt out j ≡ f (idAt ids j)
+
+-- What is behind the entries stays.
+pub record Kept (ids old new : List ℕ) : Type 0 where
+  pub size : length new ≡ length old
+  pub rest : drop (entrySize * idCount ids) new ≡ drop (entrySize * idCount ids) old
+
+-- The entry of a record whose key stands at a place.
+abbrev pub foundEntry : List ℕ → ℕ → List ℕ
+foundEntry s at = entryFor s (answered (at ∷ []))
+
+-- The entry e of an id after a record with the id `sought`: the first match stays.
+unfoldable pub turned : (entry : List ℕ) → (sought id : ℕ) → (e : List ℕ) → List ℕ
+turned entry sought id e = cond (eqb id sought && eqb (byteAt e 0) 0) entry e
+
+-- The entry of an id after these records.
+unfoldable pub entryBy : List ℕ → (locale unwanted : ℕ) → List Record → ℕ → List ℕ
+entryBy s locale unwanted seen id = entryFor s (foundIn (wanted id locale unwanted) seen)

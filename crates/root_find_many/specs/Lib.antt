@@ -1,0 +1,3 @@
+pub mod Many
+pub mod Ids
+pub mod Entries

@@ -1,0 +1,107 @@
+// Many file numbers looked up in a root file at once: one pass over its records, each of which is sought among the ids.
+use entries::clear;
+use entries::put_record;
+use ids::check_ids;
+use refusal::OUTPUT_SHORT;
+use refusal::Refusal;
+use refusal::Verdict;
+use root::judge;
+use root_block::Block;
+use root_block::DELTA_SIZE;
+use root_block::ids::delta;
+use root_layout::Layout;
+use root_layout::Opened;
+ghost use mathlib.Core.Path.{_≡_};
+ghost use mathlib.Core.List.{List, _++_};
+ghost use Prim.Native.Nat.{_<_};
+ghost use lib.ListN.{length, drop};
+ghost use Rattle.refusal.specs.Check.{silent};
+ghost use Rattle.refusal.specs.Output.{filled};
+ghost use Rattle.root_block.specs.Block as block;
+ghost use Rattle.root.specs.Root as root_spec;
+ghost use Rattle.root.specs.Lookup.{Record, recordsFrom, recordsBy};
+ghost use Rattle.root_find_many.specs.Many as spec;
+ghost use Rattle.root_find_many.specs.Ids.{Rising};
+ghost use Rattle.root_find_many.specs.Entries.{Room, Held, Kept, entryBy};
+
+mod entries;
+
+mod ids;
+
+// The bytes of an id in the list, and of an entry in the output.
+pub const ID_SIZE: usize = 4;
+
+pub const ENTRY_SIZE: usize = 20;
+
+// What the lookup answers: the bytes written, or a refusal.
+pub enum Written {
+    Bytes(usize),
+    Refused(Refusal),
+}
+
+// Puts the entries of the records of the block at a byte that counts.
+fn put_block(file: &[u8], l: Layout, at: usize, ids: &[u8], locale: u32, unwanted: u64, output: &mut [u8])
+    requires { ⌜ at < length (now file) ⌝ }
+    requires { ⌜ block.blockCheck l (drop at (now file)) at ≡ silent ⌝ }
+    requires { ⌜ Rising (now ids) ⌝ }
+    requires { ⌜ Room (now ids) (now output) ⌝ }
+    ensures { λ _. ⌜ Kept (now (ids .entry)) (now (output .entry)) (now (output .exit)) ⌝ }
+    ensures { λ _. ⌜ ((seen : List Record) → Held (now (ids .entry)) (now (output .entry)) (entryBy (now (file .entry)) locale unwanted seen) → Held (now (ids .entry)) (now (output .exit)) (entryBy (now (file .entry)) locale unwanted (seen ++ recordsFrom (now (file .entry)) l at 0 (block.blockOf l (drop at (now (file .entry))) .count)))) ⌝ }
+{
+    let bytes = &file[at..];
+    let block = Block::read(bytes, l);
+    if !block.counts(locale, unwanted) {
+        return;
+    }
+    let deltas = root_block::deltas(bytes, l);
+    let mut last: i64 = -1;
+    let mut guess = 0;
+    let mut i = 0;
+    while i < block.count {
+        let d = DELTA_SIZE * i as usize;
+        let step = delta(deltas[d], deltas[d + 1], deltas[d + 2], deltas[d + 3]);
+        last = last + 1 + step as i64;
+        guess = put_record(file, at + block.key_at(l, i), last as u32, ids, guess, output);
+        i += 1;
+    }
+}
+
+// The entries of all ids, block by block.
+fn fill(file: &[u8], l: Layout, ids: &[u8], locale: u32, unwanted: u64, output: &mut [u8])
+    requires { ⌜ root_spec.blocksCheck (now file) l (root_spec.blocksBy (now file) l) ≡ silent ⌝ }
+    requires { ⌜ Rising (now ids) ⌝ }
+    requires { ⌜ Room (now ids) (now output) ⌝ }
+    ensures { λ _. ⌜ Kept (now (ids .entry)) (now (output .entry)) (now (output .exit)) ⌝ }
+    ensures { λ _. ⌜ Held (now (ids .entry)) (now (output .exit)) (entryBy (now (file .entry)) locale unwanted (recordsBy (now (file .entry)) l)) ⌝ }
+{
+    clear(ids.len() / ID_SIZE, output);
+    let mut at = l.start as usize;
+    while at < file.len() {
+        put_block(file, l, at, ids, locale, unwanted, output);
+        at += Block::read(&file[at..], l).size(l);
+    }
+}
+
+// Looks up each id of a list that rises, in the blocks that share a locale bit and no unwanted content bit.
+pub fn find_many(file: &[u8], ids: &[u8], locale: u32, unwanted: u64, output: &mut [u8]) -> Written
+    ensures { λ r. ⌜ spec.outcome r ≡ spec.manyOutcome (now (file .entry)) (now (ids .entry)) (length (now (output .entry))) ⌝ }
+    ensures { λ _. ⌜ now (output .exit) ≡ filled (spec.manyCheck (now (file .entry)) (now (ids .entry)) (length (now (output .entry)))) (spec.manyBytes (now (file .entry)) (now (ids .entry)) locale unwanted) (now (output .entry)) ⌝ }
+{
+    match judge(file) {
+        Opened::Refused(r) => Written::Refused(r),
+        Opened::Passed(l) => {
+            if let Verdict::Refused(r) = check_ids(ids) {
+                return Written::Refused(r);
+            }
+            let n = ids.len() / ID_SIZE;
+            if output.len() / ENTRY_SIZE < n {
+                return Written::Refused(Refusal {
+                    number: OUTPUT_SHORT,
+                    place: 0,
+                });
+            }
+            fill(file, l, ids, locale, unwanted, output);
+            Written::Bytes(ENTRY_SIZE * n)
+        }
+    }
+}
