@@ -69,12 +69,15 @@ pub(crate) fn put_record(file: &[u8], key: usize, id: u32, ids: &[u8], guess: us
     ensures { λ _. ⌜ ((f : ℕ → List ℕ) → Held (now (ids .entry)) (now (output .entry)) f → Held (now (ids .entry)) (now (output .exit)) (λ x. turned (foundEntry (now (file .entry)) key) id x (f x))) ⌝ }
 {
     let at = place(ids, id, guess);
-    if at < ids.len() / ID_SIZE {
-        if id_at(ids, at) == id {
-            if output[ENTRY_SIZE * at] == 0 {
-                put_equals(&entry_of(file, key), ids, id, at, output);
-            }
-        }
+    if ids.len() / ID_SIZE <= at {
+        return at;
     }
+    if id_at(ids, at) != id {
+        return at;
+    }
+    if output[ENTRY_SIZE * at] != 0 {
+        return at;
+    }
+    put_equals(&entry_of(file, key), ids, id, at, output);
     at
 }

@@ -90,9 +90,11 @@ pub(crate) fn place(ids: &[u8], id: u32, guess: usize) -> usize
     requires { ⌜ Rising (now ids) ⌝ }
     ensures { λ r. ⌜ Between (now (ids .entry)) id r r ⌝ }
 {
-    if 0 < guess && guess <= ids.len() / ID_SIZE {
-        if id_at(ids, guess - 1) < id {
-            return ahead(ids, id, guess);
+    if 0 < guess {
+        if guess <= ids.len() / ID_SIZE {
+            if id_at(ids, guess - 1) < id {
+                return ahead(ids, id, guess);
+            }
         }
     }
     ahead(ids, id, 0)

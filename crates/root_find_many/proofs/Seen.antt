@@ -1,0 +1,190 @@
+-- The entries after the records that were seen so far: record after record in a block, and block after block.
+use mathlib.Core.Path.{_≡_, refl, sym, ap, ap₂, _∙_, subst}
+use mathlib.Core.Bool.{Bool, true, false, _&&_, cond, and-false, false≢true}
+use mathlib.Core.List.{List, [], _∷_, _++_, append-assoc, append-nil}
+use Prim.Native.Nat.{ℕ, zero, suc, _+_, _-_, _*_, _^_, _≤_, _<_}
+use native.Mathlib.Nat.{add-zero, zero-add}
+use native.Mathlib.Numerals.{add-one}
+use native.Mathlib.Omega.{arith}
+use lib.Dec.{eqb}
+use lib.IntN.{ℤ, pos, negsuc, _+ℤ_}
+use lib.ListN.{length, drop, replicate}
+use lib.Signed.{mag}
+use mir.Syntax.{w64}
+use mir.Val.{SFits, toZ, ofZ}
+use borrow.Author.Tests.{eq-eqb, ne-eqb, eqb-true, eqb-false}
+use Rattle.parts.specs.Part.{byteAt}
+use Rattle.parts.proofs.Laws.{by-test}
+use Rattle.refusal.specs.Check.{silent}
+use Rattle.refusal.specs.Outcome.{Outcome, answered, absent, refusal}
+use Rattle.refusal.proofs.Laws.{first-left, first-right}
+use Rattle.root_layout.specs.declared.Layout.{Layout}
+use Rattle.root_block.specs.Ids.{deltaAt, inRange}
+use Rattle.root_block.specs.Block as block
+use Rattle.root_block.specs.Block.{blockOf, deltasOf, blockCheck, counts}
+use Rattle.root_block.proofs.Signed.{reckoned}
+use Rattle.root_block.proofs.Gathered.{idBefore}
+use Rattle.root.specs.Root.{sizeAt, blocksAfter, blocksBy, blocksCheck}
+use Rattle.root.specs.Lookup.{Record, recordAt, recordsFrom, recordsIn, recordsBy, isId, wanted, foundIn, keyOr}
+use Rattle.root.proofs.Walk.{Walk, walk-here, walk-end}
+use Rattle.root.proofs.First.{block-skipped, record-in-range, next-is, next-before}
+use Rattle.root_find_many.specs.Many.{foundFlag, entryFor}
+use Rattle.root_find_many.specs.Entries.{Held, Kept, foundEntry, turned, entryBy}
+use Rattle.root_find_many.proofs.Laid.{kept-same, kept-on}
+
+-- ---- the first match
+
+-- An answer, or the other where there is none.
+unfoldable orElse : Outcome → Outcome → Outcome
+orElse (answered values) o = answered values
+orElse (absent values) o = o
+orElse (refusal number place) o = o
+
+or-cond : (t : Bool) (values : List ℕ) (a b : Outcome) → cond t (answered values) (orElse a b) ≡ orElse (cond t (answered values) a) b
+unfolding orElse
+or-cond true values a b = refl
+or-cond false values a b = refl
+
+found-append : (want : Record → Bool) (a b : List Record) → foundIn want (a ++ b) ≡ orElse (foundIn want a) (foundIn want b)
+unfolding foundIn orElse
+found-append want [] b = refl
+found-append want (r ∷ a) b = ap (cond (want r) (answered (r .key ∷ []))) (found-append want a b) ∙ or-cond (want r) (r .key ∷ []) (foundIn want a) (foundIn want b)
+
+module _ (s : List ℕ) where
+  -- no more matches leave the entry
+  entry-none : (o : Outcome) → entryFor s (orElse o (absent [])) ≡ entryFor s o
+  unfolding orElse entryFor foundFlag keyOr
+  entry-none (answered values) = refl
+  entry-none (absent values) = refl
+  entry-none (refusal number place) = refl
+
+  -- a match puts an entry where there was none
+  entry-one : (at sought id : ℕ) (o : Outcome) (t : Bool) → eqb id sought ≡ t
+      → turned (foundEntry s at) sought id (entryFor s o) ≡ entryFor s (orElse o (cond t (answered (at ∷ [])) (absent [])))
+  unfolding orElse turned entryFor foundFlag keyOr
+  entry-one at sought id (answered values) t e = ap (λ u. cond u (foundEntry s at) (entryFor s (answered values))) (and-false (eqb id sought))
+  entry-one at sought id (absent values) true e = ap (λ u. cond (u && true) (foundEntry s at) (entryFor s (absent values))) e
+  entry-one at sought id (absent values) false e = ap (λ u. cond (u && true) (foundEntry s at) (entryFor s (absent values))) e
+  entry-one at sought id (refusal number place) true e = ap (λ u. cond (u && true) (foundEntry s at) (entryFor s (refusal number place))) e
+  entry-one at sought id (refusal number place) false e = ap (λ u. cond (u && true) (foundEntry s at) (entryFor s (refusal number place))) e
+
+-- ---- one record
+
+same-turned : (a b : ℕ) → eqb a b ≡ eqb b a
+same-turned a b =
+    by-test (eqb b a) (λ t. eq-eqb a b (sym (eqb-true b a t)) ∙ sym t) (λ t. ne-eqb a b (λ e. eqb-false b a t (sym e)) ∙ sym t)
+
+-- an id in its range, as the code holds it
+is-id : (id : ℕ) (z : ℤ) → inRange z ≡ true → isId id z ≡ eqb id (ofZ w64 z)
+unfolding isId inRange
+is-id id (pos n) e = same-turned n id
+is-id id (negsuc n) e = absurd (false≢true e)
+
+module _ (s : List ℕ) (locale unwanted : ℕ) (seen : List Record) (r : Record) (c : counts locale unwanted (r .block) ≡ true) (in-range : inRange (r .id) ≡ true) where
+  entry-next : (id : ℕ) → turned (foundEntry s (r .key)) (ofZ w64 (r .id)) id (entryBy s locale unwanted seen id) ≡ entryBy s locale unwanted (seen ++ (r ∷ [])) id
+  unfolding entryBy foundIn wanted
+  entry-next id =
+      let want = wanted id locale unwanted in
+      let test : (counts locale unwanted (r .block) && isId id (r .id)) ≡ eqb id (ofZ w64 (r .id)) = ap (λ t. t && isId id (r .id)) c ∙ is-id id (r .id) in-range in
+      entry-one s (r .key) (ofZ w64 (r .id)) id (foundIn want seen) (eqb id (ofZ w64 (r .id))) refl
+      ∙ ap (λ t. entryFor s (orElse (foundIn want seen) (cond t (answered (r .key ∷ [])) (absent [])))) (sym test)
+      ∙ ap (entryFor s) (sym (found-append want seen (r ∷ [])))
+
+-- ---- one block
+
+module _ (s : List ℕ) (l : Layout) (at : ℕ) where
+  records-next : (i n : ℕ) → recordsFrom s l at i (suc n) ≡ recordsFrom s l at i n ++ (recordAt s l at (i + n) ∷ [])
+  unfolding recordsFrom
+  records-next i zero = ap (λ j. recordAt s l at j ∷ []) (sym (add-zero i))
+  records-next i (suc n) =
+      let shift : suc i + n ≡ i + suc n = omega arith in
+      ap (λ rs. recordAt s l at i ∷ rs) (records-next (suc i) n ∙ ap (λ j. recordsFrom s l at (suc i) n ++ (recordAt s l at j ∷ [])) shift)
+
+-- Before record i of the block at a byte: the id before it, and each entry after the records before it.
+pub record Passing (s : List ℕ) (l : Layout) (locale unwanted at i last : ℕ) (ids old new : List ℕ) : Type 0 where
+  pub before : toZ w64 last ≡ idBefore (deltasOf l (drop at s)) i
+  pub kept : Kept ids old new
+  pub held : (seen : List Record) → Held ids old (entryBy s locale unwanted seen) → Held ids new (entryBy s locale unwanted (seen ++ recordsFrom s l at 0 i))
+
+held-same : {ids out : List ℕ} {f g : ℕ → List ℕ} → ((x : ℕ) → f x ≡ g x) → Held ids out f → Held ids out g
+held-same e h = record { each = λ j l. h .each j l ∙ e _ }
+
+module _ (s : List ℕ) (l : Layout) (locale unwanted at : ℕ) (ids old : List ℕ) where
+  pub passing-none : Passing s l locale unwanted at 0 18446744073709551615 ids old old
+  unfolding idBefore recordsFrom
+  passing-none = record {
+    before = refl;
+    kept = kept-same ids old;
+    held = λ seen h. subst (λ rs. Held ids old (entryBy s locale unwanted rs)) (sym (append-nil seen)) h;
+  }
+
+  -- a block that does not count changes nothing
+  pub none-counts : counts locale unwanted (blockOf l (drop at s)) ≡ false → (n : ℕ) (seen : List Record)
+      → Held ids old (entryBy s locale unwanted seen) → Held ids old (entryBy s locale unwanted (seen ++ recordsFrom s l at 0 n))
+  unfolding entryBy foundIn
+  none-counts c n seen =
+      held-same (λ x. let want = wanted x locale unwanted in
+      sym (ap (entryFor s) (found-append want seen (recordsFrom s l at 0 n)
+      ∙ ap (orElse (foundIn want seen)) (ap (foundIn want) (sym (append-nil (recordsFrom s l at 0 n))) ∙ block-skipped s l x locale unwanted at c 0 n []))
+      ∙ entry-none s (foundIn want seen)))
+
+module _ {s : List ℕ} {l : Layout} {locale unwanted at i last : ℕ} {ids old new : List ℕ} (p : Passing s l locale unwanted at i last ids old new)
+    (e : blockCheck l (drop at s) at ≡ silent) (n : ℕ) (c : n ≡ blockOf l (drop at s) .count) (h : i < n)
+    (r : ℤ) (small : mag r < 2147483648) (q : r ≡ deltaAt (deltasOf l (drop at s)) i) where
+  -- the id of the record, as the code holds it
+  pub record-id : ofZ w64 (reckoned last r) ≡ ofZ w64 (recordAt s l at i .id)
+  unfolding recordAt
+  record-id = ap (ofZ w64) (next-is s l at n i last (p .before) e c h r small q)
+
+  pub passing-next : counts locale unwanted (blockOf l (drop at s)) ≡ true → (key id : ℕ) (out : List ℕ)
+      → key ≡ at + block.keyAt l (blockOf l (drop at s)) i → id ≡ ofZ w64 (reckoned last r) → Kept ids new out
+      → ((f : ℕ → List ℕ) → Held ids new f → Held ids out (λ x. turned (foundEntry s key) id x (f x)))
+      → Passing s l locale unwanted at (i + 1) (ofZ w64 (reckoned last r)) ids old out
+  unfolding recordAt
+  passing-next t key id out k g kept turn = record {
+    before = next-before s l at n i last (p .before) e c h r small q;
+    kept = kept-on (p .kept) kept;
+    held = λ seen first.
+        let before = seen ++ recordsFrom s l at 0 i in
+        let rec = recordAt s l at i in
+        let range = record-in-range s l at n i last (p .before) e c h r small in
+        let records : before ++ (rec ∷ []) ≡ seen ++ recordsFrom s l at 0 (i + 1) =
+        append-assoc seen (recordsFrom s l at 0 i) (rec ∷ [])
+        ∙ ap (λ rs. seen ++ rs) (ap (λ j. recordsFrom s l at 0 i ++ (recordAt s l at j ∷ [])) (sym (zero-add i)) ∙ sym (records-next s l at 0 i) ∙ ap (recordsFrom s l at 0) (sym (add-one i))) in
+        held-same
+        (λ x. ap₂ (λ k j. turned (foundEntry s k) j x (entryBy s locale unwanted before x)) k (g ∙ record-id)
+        ∙ entry-next s locale unwanted before rec t range x ∙ ap (λ rs. entryBy s locale unwanted rs x) records)
+        (turn (entryBy s locale unwanted before) (p .held seen first));
+  }
+
+-- ---- block after block
+
+-- These blocks pass the check, and each entry is that after the records of the blocks before them.
+pub record Unseen (s : List ℕ) (l : Layout) (locale unwanted : ℕ) (ids out rest : List ℕ) : Type 0 where
+  pub passes : blocksCheck s l rest ≡ silent
+  pub seen : List Record
+  pub whole : recordsBy s l ≡ seen ++ recordsIn s l rest
+  pub held : Held ids out (entryBy s locale unwanted seen)
+
+module _ (s : List ℕ) (l : Layout) (locale unwanted : ℕ) (ids out : List ℕ) where
+  pub unseen-all : blocksCheck s l (blocksBy s l) ≡ silent → Held ids out (entryBy s locale unwanted []) → Unseen s l locale unwanted ids out (blocksBy s l)
+  unseen-all e h = record { passes = e; seen = []; whole = refl; held = h }
+
+  pub unseen-passed : (at : ℕ) (rest : List ℕ) → Unseen s l locale unwanted ids out (at ∷ rest) → blockCheck l (drop at s) at ≡ silent
+  unfolding blocksCheck
+  unseen-passed at rest u = first-left _ _ (u .passes)
+
+  pub unseen-next : (new : List ℕ) (at : ℕ) (rest : List ℕ) → Unseen s l locale unwanted ids out (at ∷ rest)
+      → ((seen : List Record) → Held ids out (entryBy s locale unwanted seen) → Held ids new (entryBy s locale unwanted (seen ++ recordsFrom s l at 0 (blockOf l (drop at s) .count))))
+      → Unseen s l locale unwanted ids new rest
+  unfolding blocksCheck recordsIn
+  unseen-next new at rest u turn = record {
+    passes = first-right _ _ (u .passes);
+    seen = u .seen ++ recordsFrom s l at 0 (blockOf l (drop at s) .count);
+    whole = u .whole ∙ sym (append-assoc (u .seen) (recordsFrom s l at 0 (blockOf l (drop at s) .count)) (recordsIn s l rest));
+    held = turn (u .seen) (u .held);
+  }
+
+  pub unseen-none : Unseen s l locale unwanted ids out [] → Held ids out (entryBy s locale unwanted (recordsBy s l))
+  unfolding recordsIn
+  unseen-none u = subst (λ rs. Held ids out (entryBy s locale unwanted rs)) (sym (u .whole ∙ append-nil (u .seen))) (u .held)

@@ -1,0 +1,90 @@
+-- `root_find_many::ids::check_ids`: 12, then 161 for the ids that are left.
+use mathlib.Core.Path.{_≡_, refl, sym, ap, ap₂, _∙_}
+use Prim.Native.Nat.{_-_, _≤_}
+use native.Mathlib.Omega.{arith}
+use Rattle.refusal.specs.Check.{firstFrom, checkOf}
+use Rattle.refusal.proofs.Laws.{upto-said, upto-quiet, upto-end}
+use Rattle.root_find_many.specs.Many.{idCount, fallCheck}
+use Rattle.root_find_many.proofs.Listed.{list-cut, list-whole, falls, holds}
+use borrow.Author.Needs.{needs}
+use Rattle.root_find_many.proofs.ids.check_ids.Statement.{statement}
+use Rattle.root_find_many.proofs.ids.check_ids.Tie as tie
+use Rattle.root_find_many.proofs.ids.check_ids.Reads as reads
+use Rattle.root_find_many.proofs.ids.check_ids.Lts as lts
+use Rattle.refusal.proofs.refuse.Reads as refuse-reads
+use Rattle.root_find_many.proofs.ids.id_at.Reads as id-at-reads
+
+abbrev Inv-loop : tie.InvT-loop
+Inv-loop ids n i₀ i = (1 ≤ i) × (firstFrom (fallCheck ids) 1 (n - 1) ≡ firstFrom (fallCheck ids) i (n - i))
+
+abbrev μ-loop : tie.MeasureT-loop
+μ-loop ids n i₀ i = n - i
+
+refuse-requires : tie.Need-refuse-requires Inv-loop μ-loop
+refuse-requires c κs = search needs
+
+returns : tie.Need-returns Inv-loop μ-loop
+returns c = c .refuse .ensures ∙ sym (list-cut (c .before .before .before .args .ids .now) (c .before .if1 .taken))
+
+loop-holds : tie.Need-loop-holds Inv-loop μ-loop
+loop-holds c = (omega arith, refl)
+
+id-at-requires : tie.Need-id-at-requires Inv-loop μ-loop
+id-at-requires c κs = search needs
+
+sub-id-at : tie.Need-sub-id-at Inv-loop μ-loop
+sub-id-at c = search needs
+
+id-at-requires-2 : tie.Need-id-at-requires-2 Inv-loop μ-loop
+id-at-requires-2 c κs = search needs
+
+refuse-requires-2 : tie.Need-refuse-requires-2 Inv-loop μ-loop
+refuse-requires-2 c κs = search needs
+
+returns-2 : tie.Need-returns-2 Inv-loop μ-loop
+returns-2 c =
+    let ids = c .before .before .before .before .before .before .before .before .args .ids .now in
+    let l = c .before .before .before .before .before .loop in
+    let fall = falls ids (l .i) _ _ (c .before .before .before .id-at .ensures) (c .before .before .id-at2 .ensures) (c .before .if2 .taken) in
+    c .refuse2 .ensures
+    ∙ sym (list-whole ids (c .before .before .before .before .before .before .if1 .left) ∙ l .inv .1
+    ∙ upto-said (fallCheck ids) (l .i) (idCount ids) (c .before .before .before .before .loop-test .taken) fall)
+
+add-i : tie.Need-add-i Inv-loop μ-loop
+add-i c = search needs
+
+loop-less : tie.Need-loop-less Inv-loop μ-loop
+loop-less c = search needs
+
+loop-again : tie.Need-loop-again Inv-loop μ-loop
+loop-again c =
+    let ids = c .before .before .before .before .before .before .before .args .ids .now in
+    let l = c .before .before .before .before .loop in
+    let quiet = holds ids (l .i) _ _ (c .before .before .id-at .ensures) (c .before .id-at2 .ensures) (c .if2 .left) in
+    (omega arith, l .inv .1 ∙ upto-quiet (fallCheck ids) (l .i) (idCount ids) (c .before .before .before .loop-test .taken) quiet)
+
+returns-3 : tie.Need-returns-3 Inv-loop μ-loop
+unfolding checkOf
+returns-3 c =
+    let ids = c .before .before .before .before .args .ids .now in
+    let l = c .before .loop in
+    sym (list-whole ids (c .before .before .if1 .left) ∙ l .inv .1 ∙ upto-end (fallCheck ids) (l .i) (idCount ids) (c .loop-test .left))
+
+pub check-ids-spec : {M : Type 1} → statement M
+check-ids-spec =
+    tie.close
+    (tie.spec
+    Inv-loop
+    μ-loop
+    refuse-requires
+    returns
+    loop-holds
+    id-at-requires
+    sub-id-at
+    id-at-requires-2
+    refuse-requires-2
+    returns-2
+    add-i
+    loop-less
+    loop-again
+    returns-3)

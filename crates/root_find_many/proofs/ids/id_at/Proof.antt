@@ -1,0 +1,54 @@
+-- `root_find_many::ids::id_at`: the four bytes of the id.
+use mathlib.Core.Path.{refl}
+use Rattle.root_find_many.proofs.Listed.{id-is}
+use borrow.Author.Needs.{needs}
+use Rattle.root_find_many.proofs.ids.id_at.Statement.{statement}
+use Rattle.root_find_many.proofs.ids.id_at.Tie as tie
+use Rattle.root_find_many.proofs.ids.id_at.Reads as reads
+use Rattle.root_find_many.proofs.ids.id_at.Lts as lts
+use Rattle.root_find_many.proofs.ids.number_of.Reads as number-of-reads
+
+mul-at : tie.Need-mul-at
+mul-at c = search needs
+
+shared-slice-read-number-of : tie.Need-shared-slice-read-number-of
+shared-slice-read-number-of c = search needs
+
+add-number-of : tie.Need-add-number-of
+add-number-of c = search needs
+
+shared-slice-read-number-of-2 : tie.Need-shared-slice-read-number-of-2
+shared-slice-read-number-of-2 c = search needs
+
+add-number-of-2 : tie.Need-add-number-of-2
+add-number-of-2 c = search needs
+
+shared-slice-read-number-of-3 : tie.Need-shared-slice-read-number-of-3
+shared-slice-read-number-of-3 c = search needs
+
+add-number-of-3 : tie.Need-add-number-of-3
+add-number-of-3 c = search needs
+
+shared-slice-read-number-of-4 : tie.Need-shared-slice-read-number-of-4
+shared-slice-read-number-of-4 c = search needs
+
+number-of-requires : tie.Need-number-of-requires
+number-of-requires c κs = search needs
+
+returns : tie.Need-returns
+returns c = id-is (c .before .before .before .before .before .before .args .ids .now) (c .before .before .before .before .before .before .args .i) _ _ refl (c .number-of .ensures)
+
+pub id-at-spec : {M : Type 1} → statement M
+id-at-spec =
+    tie.close
+    (tie.spec
+    mul-at
+    shared-slice-read-number-of
+    add-number-of
+    shared-slice-read-number-of-2
+    add-number-of-2
+    shared-slice-read-number-of-3
+    add-number-of-3
+    shared-slice-read-number-of-4
+    number-of-requires
+    returns)

@@ -1,0 +1,35 @@
+-- `root_find_many::ids::number_of`: the highest byte first.
+use native.Mathlib.Omega.{arith}
+use Rattle.field.specs.Number.{bigAt}
+use borrow.Author.Needs.{needs}
+use Rattle.root_find_many.proofs.ids.number_of.Statement.{statement}
+use Rattle.root_find_many.proofs.ids.number_of.Tie as tie
+use Rattle.root_find_many.proofs.ids.number_of.Reads as reads
+use Rattle.root_find_many.proofs.ids.number_of.Lts as lts
+
+mul-result : tie.Need-mul-result
+mul-result c = search needs
+
+mul-result-2 : tie.Need-mul-result-2
+mul-result-2 c = search needs
+
+add-result : tie.Need-add-result
+add-result c = search needs
+
+mul-result-3 : tie.Need-mul-result-3
+mul-result-3 c = search needs
+
+add-result-2 : tie.Need-add-result-2
+add-result-2 c = search needs
+
+add-result-3 : tie.Need-add-result-3
+add-result-3 c = search needs
+
+returns : tie.Need-returns
+unfolding bigAt
+returns c = omega arith
+
+pub number-of-spec : {M : Type 1} → statement M
+number-of-spec =
+    tie.close
+    (tie.spec mul-result mul-result-2 add-result mul-result-3 add-result-2 add-result-3 returns)
