@@ -1,13 +1,17 @@
 -- The entries in the output while it is filled: what private functions require and ensure; no rule of its own.
 use mathlib.Core.Path.{_≡_}
 use mathlib.Core.Bool.{_&&_, cond}
-use mathlib.Core.List.{List, [], _∷_}
+use mathlib.Core.List.{List, [], _∷_, _++_}
 use Prim.Native.Nat.{ℕ, _*_, _<_, _≤_}
 use lib.Dec.{eqb}
 use lib.ListN.{length, drop}
 use Rattle.parts.specs.Part.{byteAt, partAt}
+use Rattle.refusal.specs.Check.{silent}
 use Rattle.refusal.specs.Outcome.{answered}
-use Rattle.root.specs.Lookup.{Record, wanted, foundIn}
+use Rattle.root_layout.specs.declared.Layout.{Layout}
+use Rattle.root_block.specs.declared.Block.{Block}
+use Rattle.root_block.specs.Block.{blockOf, deltasOf, blockCheck}
+use Rattle.root.specs.Lookup.{Record, recordsFrom, wanted, foundIn}
 use Rattle.root_find_many.specs.Many.{entrySize, idCount, idAt, entryFor}
 
 abbrev pub entryAt : List ℕ → ℕ → List ℕ
@@ -37,3 +41,15 @@ turned entry sought id e = cond (eqb id sought && eqb (byteAt e 0) 0) entry e
 -- The entry of an id after these records.
 unfoldable pub entryBy : List ℕ → (locale unwanted : ℕ) → List Record → ℕ → List ℕ
 entryBy s locale unwanted seen id = entryFor s (foundIn (wanted id locale unwanted) seen)
+
+-- The block at a byte passes its check; its header and its deltas.
+pub record BlockAt (s : List ℕ) (l : Layout) (at : ℕ) (k : Block) (d : List ℕ) : Type 0 where
+  pub inside : at < length s
+  pub passes : blockCheck l (drop at s) at ≡ silent
+  pub header : k ≡ blockOf l (drop at s)
+  pub deltas : d ≡ deltasOf l (drop at s)
+
+-- Entries after some records become those after the records of the block at a byte too.
+pub record BlockPut (s : List ℕ) (l : Layout) (at locale unwanted : ℕ) (ids old new : List ℕ) : Type 0 where
+  pub held : (seen : List Record) → Held ids old (entryBy s locale unwanted seen)
+      → Held ids new (entryBy s locale unwanted (seen ++ recordsFrom s l at 0 (blockOf l (drop at s) .count)))

@@ -12,17 +12,18 @@ use root_block::ids::delta;
 use root_layout::Layout;
 use root_layout::Opened;
 ghost use mathlib.Core.Path.{_≡_};
-ghost use mathlib.Core.List.{List, _++_};
-ghost use Prim.Native.Nat.{_<_};
+ghost use mathlib.Core.Bool.{true};
+ghost use Prim.Native.Nat.{ℕ, _+_, _*_, _<_, _≤_};
 ghost use lib.ListN.{length, drop};
 ghost use Rattle.refusal.specs.Check.{silent};
 ghost use Rattle.refusal.specs.Output.{filled};
-ghost use Rattle.root_block.specs.Block as block;
+ghost use Rattle.root_block.specs.Ids.{deltaAt};
+ghost use Rattle.root_block.specs.Block.{blockCheck, counts};
 ghost use Rattle.root.specs.Root as root_spec;
-ghost use Rattle.root.specs.Lookup.{Record, recordsFrom, recordsBy};
+ghost use Rattle.root.specs.Lookup.{recordsBy};
 ghost use Rattle.root_find_many.specs.Many as spec;
 ghost use Rattle.root_find_many.specs.Ids.{Rising};
-ghost use Rattle.root_find_many.specs.Entries.{Room, Held, Kept, entryBy};
+ghost use Rattle.root_find_many.specs.Entries.{Room, Held, Kept, entryBy, BlockAt, BlockPut};
 
 mod entries;
 
@@ -39,31 +40,49 @@ pub enum Written {
     Refused(Refusal),
 }
 
-// Puts the entries of the records of the block at a byte that counts.
-fn put_block(file: &[u8], l: Layout, at: usize, ids: &[u8], locale: u32, unwanted: u64, output: &mut [u8])
-    requires { ⌜ at < length (now file) ⌝ }
-    requires { ⌜ block.blockCheck l (drop at (now file)) at ≡ silent ⌝ }
+// The delta of record i.
+fn delta_at(deltas: &[u8], i: u32) -> i32
+    requires { ⌜ 4 * i + 4 ≤ length (now deltas) ⌝ }
+    ensures { λ r. ⌜ r ≡ deltaAt (now (deltas .entry)) i ⌝ }
+{
+    let at = DELTA_SIZE * i as usize;
+    delta(deltas[at], deltas[at + 1], deltas[at + 2], deltas[at + 3])
+}
+
+// Puts the entries of a block that counts, record by record. The guess is where the last id stands: ids mostly rise.
+fn put_records(file: &[u8], l: Layout, at: usize, block: Block, deltas: &[u8], ids: &[u8], output: &mut [u8])
+    requires { ⌜ BlockAt (now file) l at block (now deltas) ⌝ }
     requires { ⌜ Rising (now ids) ⌝ }
     requires { ⌜ Room (now ids) (now output) ⌝ }
     ensures { λ _. ⌜ Kept (now (ids .entry)) (now (output .entry)) (now (output .exit)) ⌝ }
-    ensures { λ _. ⌜ ((seen : List Record) → Held (now (ids .entry)) (now (output .entry)) (entryBy (now (file .entry)) locale unwanted seen) → Held (now (ids .entry)) (now (output .exit)) (entryBy (now (file .entry)) locale unwanted (seen ++ recordsFrom (now (file .entry)) l at 0 (block.blockOf l (drop at (now (file .entry))) .count)))) ⌝ }
+    ensures { λ _. ⌜ ((locale unwanted : ℕ) → counts locale unwanted block ≡ true → BlockPut (now (file .entry)) l at locale unwanted (now (ids .entry)) (now (output .entry)) (now (output .exit))) ⌝ }
+{
+    let count = block.count;
+    let mut last: i64 = -1;
+    let mut guess = 0;
+    let mut i = 0;
+    while i < count {
+        let step = delta_at(deltas, i);
+        last = last + 1 + step as i64;
+        guess = put_record(file, at + block.key_at(l, i), last as u32, ids, guess, output);
+        i += 1;
+    }
+}
+
+// Puts the entries of the block at a byte, if it counts.
+fn put_block(file: &[u8], l: Layout, at: usize, ids: &[u8], locale: u32, unwanted: u64, output: &mut [u8])
+    requires { ⌜ (at < length (now file)) × (blockCheck l (drop at (now file)) at ≡ silent) ⌝ }
+    requires { ⌜ Rising (now ids) ⌝ }
+    requires { ⌜ Room (now ids) (now output) ⌝ }
+    ensures { λ _. ⌜ Kept (now (ids .entry)) (now (output .entry)) (now (output .exit)) ⌝ }
+    ensures { λ _. ⌜ BlockPut (now (file .entry)) l at locale unwanted (now (ids .entry)) (now (output .entry)) (now (output .exit)) ⌝ }
 {
     let bytes = &file[at..];
     let block = Block::read(bytes, l);
     if !block.counts(locale, unwanted) {
         return;
     }
-    let deltas = root_block::deltas(bytes, l);
-    let mut last: i64 = -1;
-    let mut guess = 0;
-    let mut i = 0;
-    while i < block.count {
-        let d = DELTA_SIZE * i as usize;
-        let step = delta(deltas[d], deltas[d + 1], deltas[d + 2], deltas[d + 3]);
-        last = last + 1 + step as i64;
-        guess = put_record(file, at + block.key_at(l, i), last as u32, ids, guess, output);
-        i += 1;
-    }
+    put_records(file, l, at, block, root_block::deltas(bytes, l), ids, output);
 }
 
 // The entries of all ids, block by block.
