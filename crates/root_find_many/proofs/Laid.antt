@@ -12,11 +12,11 @@ use borrow.Author.Tests.{eq-eqb, ne-eqb, eqb-true, eqb-false, lt-ltb, le-ltb, lt
 use Rattle.parts.specs.Part.{byteAt, partAt, overlay, partsFrom}
 use Rattle.parts.proofs.Laws.{by-test, partAt-byte, overlay-length, overlay-none, overlay-before, overlay-inside}
 use Rattle.parts.proofs.Parts.{parts-length, parts-part, part-laid}
-use Rattle.root.specs.Lookup.{keyOr}
+use Rattle.root.specs.Lookup.{foundIn, keyOr}
 use Rattle.root.proofs.First.{key-laid}
 use Rattle.root_find_many.specs.Many.{idCount, idAt, foundFlag, entryFor}
 use Rattle.root_find_many.specs.Ids.{Rising, Between}
-use Rattle.root_find_many.specs.Entries.{entryAt, Room, Held, Kept, foundEntry, turned}
+use Rattle.root_find_many.specs.Entries.{entryAt, Room, Held, Kept, foundEntry, turned, entryBy}
 
 -- ---- bytes laid over others
 
@@ -75,6 +75,23 @@ kept-on p q = record { size = q .size ∙ p .size; rest = q .rest ∙ p .rest }
 
 pub kept-room : {ids a b : List ℕ} → Room ids a → Kept ids a b → Room ids b
 kept-room r k = record { room = omega (arith, r .room, k .size) }
+
+module _ (ids old new : List ℕ) (room : Room ids old) (e : new ≡ partsFrom blank 0 (idCount ids) ++ drop (20 * idCount ids) old) where
+  pub cleared-kept : Kept ids old new
+  cleared-kept =
+      let n = idCount ids in
+      let long : length (partsFrom blank 0 n) ≡ 20 * n = zeros-length old n in
+      let behind : 20 * n ≡ length (partsFrom blank 0 n) + 0 = omega arith in
+      record {
+        size = ap length e ∙ length-append (partsFrom blank 0 n) (drop (20 * n) old) ∙ omega (arith, length-drop (20 * n) old, room .room);
+        rest = ap₂ drop behind e ∙ drop-append-add (partsFrom blank 0 n) (drop (20 * n) old) 0;
+      }
+
+  pub cleared-held : (s : List ℕ) (locale unwanted : ℕ) → Held ids new (entryBy s locale unwanted [])
+  unfolding entryBy foundIn entryFor foundFlag keyOr
+  cleared-held s locale unwanted = record {
+    each = λ j l. ap (λ r. entryAt r j) e ∙ parts-part blank 20 (idCount ids) (drop (20 * idCount ids) old) (λ k h. refl) j l;
+  }
 
 -- ---- the ids that equal a sought one
 

@@ -13,13 +13,14 @@ use root_layout::Layout;
 use root_layout::Opened;
 ghost use mathlib.Core.Path.{_≡_};
 ghost use mathlib.Core.Bool.{true};
+ghost use mathlib.Core.List.{[]};
 ghost use Prim.Native.Nat.{ℕ, _+_, _*_, _<_, _≤_};
 ghost use lib.ListN.{length, drop};
 ghost use Rattle.refusal.specs.Check.{silent};
 ghost use Rattle.refusal.specs.Output.{filled};
 ghost use Rattle.root_block.specs.Ids.{deltaAt};
 ghost use Rattle.root_block.specs.Block.{blockCheck, counts};
-ghost use Rattle.root.specs.Root as root_spec;
+ghost use Rattle.root.specs.Root.{blocksBy, blocksCheck};
 ghost use Rattle.root.specs.Lookup.{recordsBy};
 ghost use Rattle.root_find_many.specs.Many as spec;
 ghost use Rattle.root_find_many.specs.Ids.{Rising};
@@ -85,20 +86,31 @@ fn put_block(file: &[u8], l: Layout, at: usize, ids: &[u8], locale: u32, unwante
     put_records(file, l, at, block, root_block::deltas(bytes, l), ids, output);
 }
 
-// The entries of all ids, block by block.
+// Puts the entries of all blocks, from the first on.
+fn put_blocks(file: &[u8], l: Layout, ids: &[u8], locale: u32, unwanted: u64, output: &mut [u8])
+    requires { ⌜ (blocksCheck (now file) l (blocksBy (now file) l) ≡ silent) × Held (now ids) (now output) (entryBy (now file) locale unwanted []) ⌝ }
+    requires { ⌜ Rising (now ids) ⌝ }
+    requires { ⌜ Room (now ids) (now output) ⌝ }
+    ensures { λ _. ⌜ Kept (now (ids .entry)) (now (output .entry)) (now (output .exit)) ⌝ }
+    ensures { λ _. ⌜ Held (now (ids .entry)) (now (output .exit)) (entryBy (now (file .entry)) locale unwanted (recordsBy (now (file .entry)) l)) ⌝ }
+{
+    let mut at = l.start as usize;
+    while at < file.len() {
+        put_block(file, l, at, ids, locale, unwanted, output);
+        at += Block::read(&file[at..], l).size(l);
+    }
+}
+
+// The entries of all ids.
 fn fill(file: &[u8], l: Layout, ids: &[u8], locale: u32, unwanted: u64, output: &mut [u8])
-    requires { ⌜ root_spec.blocksCheck (now file) l (root_spec.blocksBy (now file) l) ≡ silent ⌝ }
+    requires { ⌜ blocksCheck (now file) l (blocksBy (now file) l) ≡ silent ⌝ }
     requires { ⌜ Rising (now ids) ⌝ }
     requires { ⌜ Room (now ids) (now output) ⌝ }
     ensures { λ _. ⌜ Kept (now (ids .entry)) (now (output .entry)) (now (output .exit)) ⌝ }
     ensures { λ _. ⌜ Held (now (ids .entry)) (now (output .exit)) (entryBy (now (file .entry)) locale unwanted (recordsBy (now (file .entry)) l)) ⌝ }
 {
     clear(ids.len() / ID_SIZE, output);
-    let mut at = l.start as usize;
-    while at < file.len() {
-        put_block(file, l, at, ids, locale, unwanted, output);
-        at += Block::read(&file[at..], l).size(l);
-    }
+    put_blocks(file, l, ids, locale, unwanted, output);
 }
 
 // Looks up each id of a list that rises, in the blocks that share a locale bit and no unwanted content bit.

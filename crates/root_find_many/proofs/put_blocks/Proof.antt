@@ -1,0 +1,133 @@
+-- `root_find_many::put_blocks`: the walk, with the entries after the blocks so far.
+use mathlib.Core.Path.{_≡_, refl, sym, ap, _∙_}
+use mathlib.Core.List.{_∷_}
+use Prim.Native.Nat.{_+_, _-_, _≤_}
+use native.Mathlib.Omega.{arith}
+use lib.ListN.{length, drop, length-drop}
+use Rattle.parts.proofs.Laws.{part-to-end}
+use Rattle.refusal.specs.Check.{silent}
+use Rattle.root_block.specs.Block.{blockOf, blockSize, blockCheck}
+use Rattle.root_block.proofs.Laws.{block-fits}
+use Rattle.root.specs.Root.{sizeAt, blocksAfter}
+use Rattle.root.proofs.Walk.{Walk, walk-start, size-some, walk-here, walk-end}
+use Rattle.root_find_many.specs.Entries.{Kept}
+use Rattle.root_find_many.proofs.Laid.{kept-same, kept-on, kept-room}
+use Rattle.root_find_many.proofs.Seen.{Unseen, unseen-all, unseen-passed, unseen-next, unseen-none}
+use borrow.Author.Needs.{needs}
+use Rattle.root_find_many.proofs.put_blocks.Statement.{statement}
+use Rattle.root_find_many.proofs.put_blocks.Tie as tie
+use Rattle.root_find_many.proofs.put_blocks.Reads as reads
+use Rattle.root_find_many.proofs.put_blocks.Lts as lts
+use Rattle.root_block.proofs.Block.read.Reads as read-reads
+use Rattle.root_block.proofs.Block.size.Reads as size-reads
+use Rattle.root_find_many.proofs.put_block.Reads as put-block-reads
+
+abbrev Inv-loop : tie.InvT-loop
+Inv-loop file l ids locale unwanted output₀ at₀ output at = Kept ids output₀ output × Walk file l (Unseen file l locale unwanted ids output) at
+
+abbrev μ-loop : tie.MeasureT-loop
+μ-loop file l ids locale unwanted output₀ at₀ output at = length file - at
+
+
+abbrev start-at : tie.In-loop Inv-loop μ-loop → tie.Start Inv-loop μ-loop
+start-at c = c .before .before .before .before .before .before
+
+-- the entries before the block at hand, that it passes, and where it ends
+here : (c : tie.In-loop Inv-loop μ-loop)
+    → let a = start-at c .args in
+    let at = c .before .loop .at in
+    Unseen (a .file .now) (a .l) (a .locale) (a .unwanted) (a .ids .now) (c .before .loop .output) (at ∷ blocksAfter (a .file .now) (a .l) (at + sizeAt (a .file .now) (a .l) at))
+here c =
+    let a = start-at c .args in
+    walk-here (a .file .now) (a .l) (Unseen (a .file .now) (a .l) (a .locale) (a .unwanted) (a .ids .now) (c .before .loop .output)) (c .before .loop .at)
+    (c .loop-test .taken) (c .before .loop .inv .1)
+
+passed : (c : tie.In-loop Inv-loop μ-loop) → blockCheck (start-at c .args .l) (drop (c .before .loop .at) (start-at c .args .file .now)) (c .before .loop .at) ≡ silent
+passed c =
+    let a = start-at c .args in
+    unseen-passed (a .file .now) (a .l) (a .locale) (a .unwanted) (a .ids .now) (c .before .loop .output) (c .before .loop .at) _ (here c)
+
+inside : (c : tie.In-loop Inv-loop μ-loop)
+    → sizeAt (start-at c .args .file .now) (start-at c .args .l) (c .before .loop .at) ≤ length (start-at c .args .file .now) - c .before .loop .at
+inside c = rw (← length-drop (c .before .loop .at) (start-at c .args .file .now)) (block-fits _ _ (c .before .loop .at) (passed c))
+
+abbrev turn : tie.After-size Inv-loop μ-loop → tie.In-loop Inv-loop μ-loop
+turn c = c .before .before .before .before .before .before .before
+
+moved : (c : tie.After-size Inv-loop μ-loop) → c .size .result ≡ sizeAt (start-at (turn c) .args .file .now) (start-at (turn c) .args .l) (turn c .before .loop .at)
+moved c =
+    let a = start-at (turn c) .args in
+    c .size .ensures ∙ ap (blockSize (a .l)) (c .before .read .ensures ∙ ap (blockOf (a .l)) (part-to-end (turn c .before .loop .at) (a .file .now)))
+
+cast-at : tie.Need-cast-at Inv-loop μ-loop
+cast-at c = search needs
+
+loop-holds : tie.Need-loop-holds Inv-loop μ-loop
+loop-holds c = search needs
+
+put-block-requires : tie.Need-put-block-requires Inv-loop μ-loop
+put-block-requires c κs =
+    let start = start-at (c .before) in
+    ((c .before .loop-test .taken, passed (c .before)), (start .pre .1 .0, kept-room (start .pre .1 .1) (c .before .before .loop .inv .0)))
+
+sub-read : tie.Need-sub-read Inv-loop μ-loop
+sub-read c = search needs
+
+part-read-start : tie.Need-part-read-start Inv-loop μ-loop
+part-read-start c = search needs
+
+part-read-end : tie.Need-part-read-end Inv-loop μ-loop
+part-read-end c = search needs
+
+read-requires : tie.Need-read-requires Inv-loop μ-loop
+read-requires c κs = search needs
+
+size-requires : tie.Need-size-requires Inv-loop μ-loop
+size-requires c κs = search needs
+
+add-at : tie.Need-add-at Inv-loop μ-loop
+add-at c = record { fits = omega (arith, moved c, inside (turn c), turn c .loop-test .taken, start-at (turn c) .good) }
+
+loop-less : tie.Need-loop-less Inv-loop μ-loop
+loop-less c =
+    let a = start-at (turn c) .args in
+    omega (arith, turn c .loop-test .taken, moved c, size-some (a .file .now) (a .l) (turn c .before .loop .at))
+
+loop-again : tie.Need-loop-again Inv-loop μ-loop
+loop-again c =
+    let t = turn c in
+    let a = start-at t .args in
+    let put = c .before .before .before .before .before .put-block in
+    let at = t .before .loop .at in
+    (kept-on (t .before .loop .inv .0) (put .ensures .0),
+    rw (moved c) (record { here = unseen-next (a .file .now) (a .l) (a .locale) (a .unwanted) (a .ids .now) (t .before .loop .output) _ at _ (here t) (put .ensures .1) }))
+
+same-length : tie.Need-same-length Inv-loop μ-loop
+same-length c = search needs
+
+returns : tie.Need-returns Inv-loop μ-loop
+returns c =
+    let a = c .before .before .before .before .before .before .args in
+    let l = c .before .loop in
+    let w = walk-end (a .file .now) (a .l) (Unseen (a .file .now) (a .l) (a .locale) (a .unwanted) (a .ids .now) (l .output)) (l .at) (c .loop-test .left) (l .inv .1) in
+    (l .inv .0, unseen-none (a .file .now) (a .l) (a .locale) (a .unwanted) (a .ids .now) (l .output) w)
+
+pub put-blocks-spec : {M : Type 1} → statement M
+put-blocks-spec =
+    tie.close
+    (tie.spec
+    Inv-loop
+    μ-loop
+    cast-at
+    loop-holds
+    put-block-requires
+    sub-read
+    part-read-start
+    part-read-end
+    read-requires
+    size-requires
+    add-at
+    loop-less
+    loop-again
+    same-length
+    returns)
