@@ -1,3 +1,4 @@
 pub mod Listed
 pub mod Laid
 pub mod Seen
+pub mod Whole

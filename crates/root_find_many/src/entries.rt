@@ -61,7 +61,14 @@ fn put_equals(entry: &[u8; 20], ids: &[u8], id: u32, from: usize, output: &mut [
 }
 
 // Puts the entry of a record where its id is sought and not found yet. Answers where the id stands or would stand.
-pub(crate) fn put_record(file: &[u8], key: usize, id: u32, ids: &[u8], guess: usize, output: &mut [u8]) -> usize
+pub(crate) fn put_record(
+    file: &[u8],
+    key: usize,
+    id: u32,
+    ids: &[u8],
+    guess: usize,
+    output: &mut [u8],
+) -> usize
     requires { ⌜ key + 16 ≤ length (now file) ⌝ }
     requires { ⌜ Rising (now ids) ⌝ }
     requires { ⌜ Room (now ids) (now output) ⌝ }

@@ -27,7 +27,6 @@ ghost use Rattle.root_find_many.specs.Ids.{Rising};
 ghost use Rattle.root_find_many.specs.Entries.{Room, Held, Kept, entryBy, BlockAt, BlockPut};
 
 mod entries;
-
 mod ids;
 
 // The bytes of an id in the list, and of an entry in the output.
@@ -51,7 +50,15 @@ fn delta_at(deltas: &[u8], i: u32) -> i32
 }
 
 // Puts the entries of a block that counts, record by record. The guess is where the last id stands: ids mostly rise.
-fn put_records(file: &[u8], l: Layout, at: usize, block: Block, deltas: &[u8], ids: &[u8], output: &mut [u8])
+fn put_records(
+    file: &[u8],
+    l: Layout,
+    at: usize,
+    block: Block,
+    deltas: &[u8],
+    ids: &[u8],
+    output: &mut [u8],
+)
     requires { ⌜ BlockAt (now file) l at block (now deltas) ⌝ }
     requires { ⌜ Rising (now ids) ⌝ }
     requires { ⌜ Room (now ids) (now output) ⌝ }
@@ -65,13 +72,28 @@ fn put_records(file: &[u8], l: Layout, at: usize, block: Block, deltas: &[u8], i
     while i < count {
         let step = delta_at(deltas, i);
         last = last + 1 + step as i64;
-        guess = put_record(file, at + block.key_at(l, i), last as u32, ids, guess, output);
+        guess = put_record(
+            file,
+            at + block.key_at(l, i),
+            last as u32,
+            ids,
+            guess,
+            output,
+        );
         i += 1;
     }
 }
 
 // Puts the entries of the block at a byte, if it counts.
-fn put_block(file: &[u8], l: Layout, at: usize, ids: &[u8], locale: u32, unwanted: u64, output: &mut [u8])
+fn put_block(
+    file: &[u8],
+    l: Layout,
+    at: usize,
+    ids: &[u8],
+    locale: u32,
+    unwanted: u64,
+    output: &mut [u8],
+)
     requires { ⌜ (at < length (now file)) × (blockCheck l (drop at (now file)) at ≡ silent) ⌝ }
     requires { ⌜ Rising (now ids) ⌝ }
     requires { ⌜ Room (now ids) (now output) ⌝ }
@@ -83,7 +105,15 @@ fn put_block(file: &[u8], l: Layout, at: usize, ids: &[u8], locale: u32, unwante
     if !block.counts(locale, unwanted) {
         return;
     }
-    put_records(file, l, at, block, root_block::deltas(bytes, l), ids, output);
+    put_records(
+        file,
+        l,
+        at,
+        block,
+        root_block::deltas(bytes, l),
+        ids,
+        output,
+    );
 }
 
 // Puts the entries of all blocks, from the first on.

@@ -53,13 +53,15 @@ put-records-requires c κs =
     let read = c .before .before .before .before in
     let start = start-at read in
     let s = start .args .file .now in
-    let at = start .args .at in
-    (record {
-      inside = start .pre .0 .0;
-      passes = start .pre .0 .1;
-      header = header read;
-      deltas = c .before .deltas .ensures ∙ ap (deltasOf (start .args .l)) (part-to-end at s);
-    }, (start .pre .1 .0, start .pre .1 .1))
+    let at = start .args .at in (
+      record {
+        inside = start .pre .0 .0;
+        passes = start .pre .0 .1;
+        header = header read;
+        deltas = c .before .deltas .ensures ∙ ap (deltasOf (start .args .l)) (part-to-end at s);
+      },
+      (start .pre .1 .0, start .pre .1 .1),
+    )
 
 same-length : tie.Need-same-length
 same-length c = search needs

@@ -28,7 +28,6 @@ Inv-loop file l ids locale unwanted output₀ at₀ output at = Kept ids output�
 abbrev μ-loop : tie.MeasureT-loop
 μ-loop file l ids locale unwanted output₀ at₀ output at = length file - at
 
-
 abbrev start-at : tie.In-loop Inv-loop μ-loop → tie.Start Inv-loop μ-loop
 start-at c = c .before .before .before .before .before .before
 
@@ -98,9 +97,10 @@ loop-again c =
     let t = turn c in
     let a = start-at t .args in
     let put = c .before .before .before .before .before .put-block in
-    let at = t .before .loop .at in
-    (kept-on (t .before .loop .inv .0) (put .ensures .0),
-    rw (moved c) (record { here = unseen-next (a .file .now) (a .l) (a .locale) (a .unwanted) (a .ids .now) (t .before .loop .output) _ at _ (here t) (put .ensures .1) }))
+    let at = t .before .loop .at in (
+      kept-on (t .before .loop .inv .0) (put .ensures .0),
+      rw (moved c) (record { here = unseen-next (a .file .now) (a .l) (a .locale) (a .unwanted) (a .ids .now) (t .before .loop .output) _ at _ (here t) (put .ensures .1) }),
+    )
 
 same-length : tie.Need-same-length Inv-loop μ-loop
 same-length c = search needs

@@ -87,9 +87,11 @@ loop-again c =
     let b = start .pre .0 in
     let l = k .before .before .before .loop in
     let d = k .before .delta-at in
-    let p = c .before .before .put-record in
-    (omega arith, passing-next (l .inv .1) (b .passes) (start .args .block .count) (block-count b) (k .before .before .loop-test .taken) (d .result) (d .ok)
-    (delta-of b (l .i) _ (d .ensures)) _ _ _ (key-of b (l .i) _ (k .key-at .ensures .0)) refl (p .ensures .0) (p .ensures .1))
+    let p = c .before .before .put-record in (
+      omega arith,
+      passing-next (l .inv .1) (b .passes) (start .args .block .count) (block-count b) (k .before .before .loop-test .taken) (d .result) (d .ok)
+          (delta-of b (l .i) _ (d .ensures)) _ _ _ (key-of b (l .i) _ (k .key-at .ensures .0)) refl (p .ensures .0) (p .ensures .1),
+    )
 
 same-length : tie.Need-same-length Inv-loop μ-loop
 same-length c = c .before .loop .inv .1 .kept .size
