@@ -4,3 +4,4 @@ pub mod FileNumbers
 pub mod Indexes
 pub mod Keys
 pub mod Md5State
+pub mod Roots

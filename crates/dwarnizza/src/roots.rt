@@ -2,10 +2,14 @@
 use crate::answer::refused;
 use crate::answer::tell;
 use root::Answer;
+use root_find_many::Written;
 ghost use mathlib.Core.Path.{_≡_};
+ghost use lib.ListN.{length};
 ghost use Rattle.root.specs.Root.{rootCheck};
 ghost use Rattle.root.specs.Lookup.{lookupOf, keyOr};
+ghost use Rattle.root_find_many.specs.Many.{manyOutcome};
 ghost use Rattle.dwarnizza.specs.Answer.{result, answerWords, verdictOutcome};
+ghost use Rattle.dwarnizza.specs.Roots.{manyOutput};
 
 // The check of a whole root file.
 #[no_mangle]
@@ -42,6 +46,29 @@ pub extern "C" fn dwarnizza_root_find(
         Answer::Key(at) => {
             *key = bytes;
             *answer = [at as u64, 0, 0, 0, 0, 0, 0, 0];
+            0
+        }
+    }
+}
+
+// The content keys of many file numbers, which rise, four bytes each: the bytes written. A refusal leaves the output's bytes.
+#[no_mangle]
+pub extern "C" fn dwarnizza_root_find_many(
+    file: &[u8],
+    ids: &[u8],
+    locale: u32,
+    unwanted: u64,
+    output: &mut [u8],
+    answer: &mut [u64; 8],
+) -> u32
+    ensures { λ r. ⌜ r ≡ result (manyOutcome (now (file .entry)) (now (ids .entry)) (length (now (output .entry)))) ⌝ }
+    ensures { λ _. ⌜ now (output .exit) ≡ manyOutput (now (file .entry)) (now (ids .entry)) locale unwanted (now (output .entry)) ⌝ }
+    ensures { λ _. ⌜ now (answer .exit) ≡ answerWords (manyOutcome (now (file .entry)) (now (ids .entry)) (length (now (output .entry)))) ⌝ }
+{
+    match root_find_many::find_many(file, ids, locale, unwanted, output) {
+        Written::Refused(r) => refused(r, answer),
+        Written::Bytes(bytes) => {
+            *answer = [bytes as u64, 0, 0, 0, 0, 0, 0, 0];
             0
         }
     }
