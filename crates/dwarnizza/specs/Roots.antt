@@ -1,4 +1,4 @@
--- What C's output holds after the lookup of many file numbers: rules G13, G16 and R17.
+-- What C's output holds after the lookup of many file numbers: rules G13, G16 and R18.
 use mathlib.Core.List.{List}
 use Prim.Native.Nat.{ℕ}
 use lib.ListN.{length}

@@ -1,4 +1,4 @@
--- The lookup of many file numbers in a root file s at once: rule R17.
+-- The lookup of many file numbers in a root file s at once: rule R18.
 use mathlib.Core.Bool.{not}
 use mathlib.Core.List.{List, [], _∷_}
 use Prim.Native.Nat.{ℕ, _-_, _*_, _/_, _%_}
