@@ -152,7 +152,7 @@ module _ (s : List ℕ) (id locale unwanted : ℕ) (c : Calls s id locale unwant
   unfolding keyOr outcome
   key at e = c .key-ensures ∙ ap (keyOr s (replicate 16 0)) (sym (c .lookup-ensures) ∙ ap outcome e)
 
-  pub finds-first : FindsFirst s id locale unwanted c
+  pub finds-first : FindsFirst s id locale unwanted (c .looked)
   finds-first = record {
     found = λ at e. found at e (decided id locale unwanted (records s));
     key = key;

@@ -43,13 +43,13 @@ pub record Calls (s : List ℕ) (id locale unwanted : ℕ) : Type 0 where
   -- The premise.
   pub passed : checked ≡ Passed
 
--- What holds of them, over the list of all records of the file.
-pub record FindsFirst (s : List ℕ) (id locale unwanted : ℕ) (c : Calls s id locale unwanted) : Type 0 where
+-- What holds of an answer, over the list of all records of the file.
+pub record FindsFirst (s : List ℕ) (id locale unwanted : ℕ) (looked : Found) : Type 0 where
   -- A found key is that of the first wanted record, and its bytes are those of the file there.
-  pub found : (at : ℕ) → c .looked .answer ≡ Key at → (r : Record) × FirstWanted id locale unwanted (records s) r × (r .key ≡ at)
-  pub key : (at : ℕ) → c .looked .answer ≡ Key at → c .looked .key ≡ keyAt s at
+  pub found : (at : ℕ) → looked .answer ≡ Key at → (r : Record) × FirstWanted id locale unwanted (records s) r × (r .key ≡ at)
+  pub key : (at : ℕ) → looked .answer ≡ Key at → looked .key ≡ keyAt s at
   -- The first wanted record is found.
-  pub finds : (r : Record) → FirstWanted id locale unwanted (records s) r → c .looked .answer ≡ Key (r .key)
+  pub finds : (r : Record) → FirstWanted id locale unwanted (records s) r → looked .answer ≡ Key (r .key)
   -- Absent exactly where no record is wanted.
-  pub absent : c .looked .answer ≡ Absent → NoneWanted id locale unwanted (records s)
-  pub absent-where : NoneWanted id locale unwanted (records s) → c .looked .answer ≡ Absent
+  pub absent : looked .answer ≡ Absent → NoneWanted id locale unwanted (records s)
+  pub absent-where : NoneWanted id locale unwanted (records s) → looked .answer ≡ Absent
