@@ -65,7 +65,7 @@ module _ (t : List ℕ) (column : ℕ) where
 
 -- ---- a field
 
-column-here : (fields : List Span) (column : ℕ) → column < length fields → columnOf fields column ≡ answered (spanValues (spanIn fields column))
+pub column-here : (fields : List Span) (column : ℕ) → column < length fields → columnOf fields column ≡ answered (spanValues (spanIn fields column))
 unfolding columnOf spanIn
 column-here [] column l = absurd (not-suc-le-zero l)
 column-here (f ∷ fields) zero l = refl

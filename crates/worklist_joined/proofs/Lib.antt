@@ -1,0 +1,4 @@
+pub mod Ends
+pub mod RowLaws
+pub mod FieldLaws
+pub mod Quotes
