@@ -268,3 +268,6 @@ module _ {sep : ℕ} {t out₀ out : List ℕ} {count at : ℕ} (c : Copying sep
   pub copied-all : noSeparator sep ≡ false → length t ≤ at → (count ≡ rowCount sep t) × (out ≡ copiedRows sep t out₀)
   copied-all h l =
       (rw h (omega (arith, c .rows, ap length (rows-none sep t (c .turns) at l))), rw h (c .copied ∙ ap (overlay out₀ 0) (take-all at t l)))
+
+pub nothing-copied : (sep : ℕ) (t out : List ℕ) → noSeparator sep ≡ true → (0 ≡ rowCount sep t) × (out ≡ copiedRows sep t out)
+nothing-copied sep t out h = (rw h, rw h)

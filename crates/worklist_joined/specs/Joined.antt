@@ -7,7 +7,7 @@ use lib.Dec.{ltb, eqb}
 use lib.ListN.{length}
 use Rattle.parts.specs.Part.{byteAt, partAt, overlay}
 use Rattle.worklist.specs.declared.Span.{Span}
-use Rattle.worklist.specs.Rows.{quote, cr, lf, stops, noSeparator, behindLineEnd, Row, whole, malformed, rowAt, rowEnd, spanIn}
+use Rattle.worklist.specs.Rows.{quote, cr, lf, stops, noSeparator, behindLineEnd, Row, whole, malformed, rowAt, rowEnd, fieldOutcome, fieldPart, spanIn}
 
 -- ---- rows
 
@@ -81,6 +81,10 @@ joinedFields sep t (f ∷ fields) = fieldBytes t f ++ behindSeparators sep t fie
 abbrev pub FieldsJoined : ℕ → List ℕ → Type 0
 FieldsJoined sep t =
     (at : ℕ) → at < length t → (fields : List Span) (end : ℕ) → rowAt sep t at ≡ whole fields end → joinedFields sep t fields ≡ partAt t at (end - at)
+
+-- The field of a column, as it is handed out (rule D7).
+abbrev pub fieldOf : ℕ → List ℕ → ℕ → ℕ → List ℕ
+fieldOf sep t at column = fieldPart t (fieldOutcome t at sep column)
 
 unfoldable pub fieldsOf : Row → List Span
 fieldsOf (whole fields end) = fields

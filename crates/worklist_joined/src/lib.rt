@@ -6,9 +6,10 @@ use worklist::field_part;
 use worklist::row;
 ghost use mathlib.Core.Path.{_≡_};
 ghost use mathlib.Core.Bool.{false, not};
-ghost use Prim.Native.Nat.{_+_, _-_, _<_};
+ghost use mathlib.Core.List.{[], _∷_};
+ghost use Prim.Native.Nat.{_+_, _^_, _<_, _≤_};
 ghost use lib.ListN.{length};
-ghost use Rattle.parts.specs.Part.{partAt, overlay};
+ghost use Rattle.parts.specs.Part.{overlay};
 ghost use Rattle.worklist.specs.Rows as rows;
 ghost use Rattle.worklist_joined.specs.Joined as spec;
 
@@ -72,21 +73,30 @@ pub fn copy_rows(text: &[u8], separator: u32, output: &mut [u8]) -> usize
     count
 }
 
+// Copies a separator and the field of a column to a place of the output, and tells the place behind them.
+fn put(text: &[u8], at: usize, separator: u32, column: usize, output: &mut [u8], to: usize) -> usize
+    requires { ⌜ (separator ≤ 255) × (to + (1 + length (spec.fieldOf separator (now text) at column)) < 2 ^ 64) ⌝ }
+    ensures { λ r. ⌜ r ≡ to + (1 + length (spec.fieldOf separator (now (text .entry)) at column)) ⌝ }
+    ensures { λ _. ⌜ now (output .exit) ≡ overlay (overlay (now (output .entry)) to (separator ∷ [])) (to + 1) (spec.fieldOf separator (now (text .entry)) at column) ⌝ }
+{
+    let between = [separator as u8];
+    copy(&between, output, to);
+    let field = field_part(text, at, separator, column);
+    copy(field, output, to + 1);
+    to + (1 + field.len())
+}
+
 // Copies the fields of a row to the start of the output, with a separator between each two.
 fn join(text: &[u8], at: usize, separator: u32, fields: usize, output: &mut [u8])
     requires { ⌜ spec.HasFields separator (now text) at fields ⌝ }
     ensures { λ _. ⌜ now (output .exit) ≡ overlay (now (output .entry)) 0 (spec.joinedFields separator (now (text .entry)) (spec.fieldsOf (rows.rowAt separator (now (text .entry)) at))) ⌝ }
 {
-    let between = [separator as u8];
     let first = field_part(text, at, separator, 0);
     copy(first, output, 0);
     let mut to = first.len();
     let mut column = 1;
     while column < fields {
-        copy(&between, output, to);
-        let next = field_part(text, at, separator, column);
-        copy(next, output, to + 1);
-        to += 1 + next.len();
+        to = put(text, at, separator, column, output, to);
         column += 1;
     }
 }

@@ -1,65 +1,73 @@
+-- `worklist_joined::copy_rows`: row after row.
+use mathlib.Core.Path.{ap, _∙_}
+use Prim.Native.Nat.{_-_}
+use native.Mathlib.Omega.{arith}
+use lib.ListN.{length}
+use Rattle.parts.specs.Part.{overlay}
+use Rattle.parts.proofs.Laws.{overlay-length}
+use Rattle.worklist_joined.proofs.RowLaws.{Copying, copying-none, copying-on, copied-all, nothing-copied, row-next}
+use borrow.Author.Needs.{needs}
 use Rattle.worklist_joined.proofs.copy_rows.Statement.{statement}
 use Rattle.worklist_joined.proofs.copy_rows.Tie as tie
-use Rattle.worklist_joined.proofs.copy_rows.Reads as reads
-use Rattle.worklist_joined.proofs.copy_rows.Lts as lts
-use Rattle.parts.proofs.copy.Reads as copy-reads
-use Rattle.parts.proofs.part.Reads as part-reads
-use Rattle.worklist_joined.proofs.next_row.Reads as next-row-reads
-use Rattle.worklist_joined.proofs.separates.Reads as separates-reads
 
 abbrev Inv-loop : tie.InvT-loop
-Inv-loop text separator output₀ count₀ at₀ output count at = ?
+Inv-loop text separator output₀ count₀ at₀ output count at = Copying separator text output₀ count at output
 
 abbrev μ-loop : tie.MeasureT-loop
-μ-loop text separator output₀ count₀ at₀ output count at = ?
+μ-loop text separator output₀ count₀ at₀ output count at = length text - at
 
--- src/lib.rt:61:9
 separates-requires : tie.Need-separates-requires Inv-loop μ-loop
-separates-requires c κs = ?
+separates-requires c κs = search needs
 
--- src/lib.rt:62:9
 returns : tie.Need-returns Inv-loop μ-loop
-returns c = ?
+returns c = nothing-copied _ _ _ (c .before .separates .ensures ∙ c .if1 .taken)
 
--- src/lib.rt:66:5
 loop-holds : tie.Need-loop-holds Inv-loop μ-loop
-loop-holds c = ?
+loop-holds c = copying-none _ _ _
 
--- src/lib.rt:67:13
 next-row-requires : tie.Need-next-row-requires Inv-loop μ-loop
-next-row-requires c κs = ?
+next-row-requires c κs =
+    let e = c .before .before in
+    (e .before .separates .ensures ∙ e .if1 .left, c .loop-test .taken)
 
--- src/lib.rt:68:29
 sub-part : tie.Need-sub-part Inv-loop μ-loop
-sub-part c = ?
+sub-part c =
+    let l = c .before .before .loop in
+    let a = c .before .before .before .before .before .before .before .args in
+    omega (arith, c .next-row .ensures, row-next (a .separator) (a .text .now) (l .at) (c .before .loop-test .taken) .0)
 
--- src/lib.rt:68:14
 part-requires : tie.Need-part-requires Inv-loop μ-loop
-part-requires c κs = ?
+part-requires c κs = search needs
 
--- src/lib.rt:68:9
 copy-requires : tie.Need-copy-requires Inv-loop μ-loop
-copy-requires c κs = ?
+copy-requires c κs = search needs
 
--- src/lib.rt:70:9
 add-count : tie.Need-add-count Inv-loop μ-loop
-add-count c = ?
+add-count c =
+    let n = c .before .before .before .before .before in
+    let l = n .before .before .loop in
+    omega (arith, l .inv .few, n .before .loop-test .taken)
 
--- src/lib.rt:66:5
 loop-less : tie.Need-loop-less Inv-loop μ-loop
-loop-less c = ?
+loop-less c =
+    let n = c .before .before .before .before .before in
+    let l = n .before .before .loop in
+    let a = n .before .before .before .before .before .before .before .args in
+    omega (arith, n .next-row .ensures, row-next (a .separator) (a .text .now) (l .at) (n .before .loop-test .taken) .0, n .before .loop-test .taken)
 
--- src/lib.rt:66:5
 loop-again : tie.Need-loop-again Inv-loop μ-loop
-loop-again c = ?
+loop-again c =
+    let n = c .before .before .before .before .before in
+    let l = n .before .before .loop in
+    copying-on (l .inv) (n .before .loop-test .taken) _ (n .next-row .ensures) _ (c .before .before .copy .ensures ∙ ap (overlay (l .output) (l .at)) (c .before .before .before .before .part .ensures))
 
--- src/lib.rt:57:1
 same-length : tie.Need-same-length Inv-loop μ-loop
-same-length c = ?
+same-length c = ap length (c .before .loop .inv .copied) ∙ overlay-length _ _ _
 
--- src/lib.rt:57:1
 returns-2 : tie.Need-returns-2 Inv-loop μ-loop
-returns-2 c = ?
+returns-2 c =
+    let e = c .before .before in
+    copied-all (c .before .loop .inv) (e .before .separates .ensures ∙ e .if1 .left) (c .loop-test .left)
 
 pub copy-rows-spec : {M : Type 1} → statement M
 copy-rows-spec =

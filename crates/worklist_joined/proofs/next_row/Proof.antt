@@ -1,45 +1,53 @@
+-- `worklist_joined::next_row`: what the row tells.
+use mathlib.Core.Path.{ap}
+use Rattle.worklist.specs.Rows.{lengthOf, rowTold}
+use Rattle.worklist_joined.proofs.RowLaws.{next-known}
 use borrow.Author.Needs.{needs}
 use Rattle.worklist_joined.proofs.next_row.Statement.{statement}
 use Rattle.worklist_joined.proofs.next_row.Tie as tie
-use Rattle.worklist_joined.proofs.next_row.Reads as reads
-use Rattle.worklist_joined.proofs.next_row.Lts as lts
-use Rattle.worklist.proofs.row.Reads as row-reads
 
--- src/lib.rt:40:11
 row-requires : tie.Need-row-requires
 row-requires c κs = search needs
 
--- src/lib.rt:43:13
 enum-known-next : tie.Need-enum-known-next
 enum-known-next c = search needs
 
--- src/lib.rt:48:13
 enum-known-next-2 : tie.Need-enum-known-next-2
 enum-known-next-2 c = search needs
 
--- src/lib.rt:51:30
 enum-told : tie.Need-enum-told
 enum-told c = search needs
 
--- src/lib.rt:52:34
 enum-told-2 : tie.Need-enum-told-2
 enum-told-2 c = search needs
 
--- src/lib.rt:36:1
 returns : tie.Need-returns
-returns c = ?
+unfolding lengthOf rowTold
+returns c =
+    let w = c .before .before .before in
+    let s = w .before .before in
+    next-known (s .args .text .now) (s .args .at) (s .args .separator) (s .pre .0) (s .pre .1) (w .row .result) (w .row .ensures) _ (ap (λ r. lengthOf (rowTold r)) (c .before .next .given .1))
 
--- src/lib.rt:36:1
 returns-2 : tie.Need-returns-2
-returns-2 c = ?
+unfolding lengthOf rowTold
+returns-2 c =
+    let w = c .before .before .before in
+    let s = w .before .before in
+    next-known (s .args .text .now) (s .args .at) (s .args .separator) (s .pre .0) (s .pre .1) (w .row .result) (w .row .ensures) _ (ap (λ r. lengthOf (rowTold r)) (c .before .next2 .given .1))
 
--- src/lib.rt:36:1
 returns-3 : tie.Need-returns-3
-returns-3 c = ?
+unfolding lengthOf rowTold
+returns-3 c =
+    let w = c .before .before in
+    let s = w .before .before in
+    next-known (s .args .text .now) (s .args .at) (s .args .separator) (s .pre .0) (s .pre .1) (w .row .result) (w .row .ensures) _ (ap (λ r. lengthOf (rowTold r)) (c .enum-told .given .1))
 
--- src/lib.rt:36:1
 returns-4 : tie.Need-returns-4
-returns-4 c = ?
+unfolding lengthOf rowTold
+returns-4 c =
+    let w = c .before .before in
+    let s = w .before .before in
+    next-known (s .args .text .now) (s .args .at) (s .args .separator) (s .pre .0) (s .pre .1) (w .row .result) (w .row .ensures) _ (ap (λ r. lengthOf (rowTold r)) (c .enum-told2 .given .1))
 
 pub next-row-spec : {M : Type 1} → statement M
 next-row-spec =

@@ -1,45 +1,53 @@
+-- `worklist_joined::separates`: a row is refused for its separator alone.
+use mathlib.Core.Path.{ap}
+use Rattle.worklist.specs.Rows.{rowTold}
+use Rattle.worklist_joined.proofs.RowLaws.{isRefusal, separator-known}
 use borrow.Author.Needs.{needs}
 use Rattle.worklist_joined.proofs.separates.Statement.{statement}
 use Rattle.worklist_joined.proofs.separates.Tie as tie
-use Rattle.worklist_joined.proofs.separates.Reads as reads
-use Rattle.worklist_joined.proofs.separates.Lts as lts
-use Rattle.worklist.proofs.row.Reads as row-reads
 
--- src/lib.rt:19:11
 row-requires : tie.Need-row-requires
 row-requires c κs = search needs
 
--- src/lib.rt:20:34
 enum-told : tie.Need-enum-told
 enum-told c = search needs
 
--- src/lib.rt:21:30
 enum-told-2 : tie.Need-enum-told-2
 enum-told-2 c = search needs
 
--- src/lib.rt:26:14
 enum-told-3 : tie.Need-enum-told-3
 enum-told-3 c = search needs
 
--- src/lib.rt:31:14
 enum-told-4 : tie.Need-enum-told-4
 enum-told-4 c = search needs
 
--- src/lib.rt:16:1
 returns : tie.Need-returns
-returns c = ?
+unfolding isRefusal rowTold
+returns c =
+    let w = c .before .before in
+    let a = w .before .before .args in
+    separator-known (a .text .now) 0 (a .separator) (w .row .result) (w .row .ensures) _ (ap (λ r. isRefusal (rowTold r)) (c .enum-told .given .1))
 
--- src/lib.rt:16:1
 returns-2 : tie.Need-returns-2
-returns-2 c = ?
+unfolding isRefusal rowTold
+returns-2 c =
+    let w = c .before .before in
+    let a = w .before .before .args in
+    separator-known (a .text .now) 0 (a .separator) (w .row .result) (w .row .ensures) _ (ap (λ r. isRefusal (rowTold r)) (c .enum-told2 .given .1))
 
--- src/lib.rt:16:1
 returns-3 : tie.Need-returns-3
-returns-3 c = ?
+unfolding isRefusal rowTold
+returns-3 c =
+    let w = c .before .before in
+    let a = w .before .before .args in
+    separator-known (a .text .now) 0 (a .separator) (w .row .result) (w .row .ensures) _ (ap (λ r. isRefusal (rowTold r)) (c .enum-told3 .given .1))
 
--- src/lib.rt:16:1
 returns-4 : tie.Need-returns-4
-returns-4 c = ?
+unfolding isRefusal rowTold
+returns-4 c =
+    let w = c .before .before in
+    let a = w .before .before .args in
+    separator-known (a .text .now) 0 (a .separator) (w .row .result) (w .row .ensures) _ (ap (λ r. isRefusal (rowTold r)) (c .enum-told4 .given .1))
 
 pub separates-spec : {M : Type 1} → statement M
 separates-spec =
