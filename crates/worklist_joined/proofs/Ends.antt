@@ -58,7 +58,7 @@ stop-ends : (sep : ℕ) (t : List ℕ) (at : ℕ) → at ≤ length t → (stopA
 stop-ends sep t at l =
     ⊎-elim (λ p. inl (omega (arith, p, length-drop at t)))
     (λ p. inr (let place : at + (stopAt sep t at - at) ≡ stopAt sep t at = omega (arith, stop-range sep at (drop at t) .0) in
-      subst (λ n. stops sep (byteAt t n) ≡ true) place (subst (λ b. stops sep b ≡ true) (getD-drop at t (stopAt sep t at - at) 0) p)))
+    subst (λ n. stops sep (byteAt t n) ≡ true) place (subst (λ b. stops sep b ≡ true) (getD-drop at t (stopAt sep t at - at) 0) p)))
     (stop-at sep at (drop at t))
 
 -- ---- where a row ends
@@ -70,10 +70,10 @@ module _ (sep : ℕ) (t : List ℕ) where
       let within = field-inside sep t at end quoted l e in
       ⊎-elim
       (λ p. ⊎-elim (λ z. record { here = inl (sym (p .stop) ∙ z) })
-        (λ z. stop-line sep t end within s (subst (λ n. stops sep (byteAt t n) ≡ true) (p .stop) z)) (stop-ends sep t at l))
+      (λ z. stop-line sep t end within s (subst (λ n. stops sep (byteAt t n) ≡ true) (p .stop) z)) (stop-ends sep t at l))
       (λ q. by-test (leb (length t) end)
-        (λ z. record { here = inl (omega (arith, leb-true (length t) end z)) })
-        (λ z. stop-line sep t end within s (rw z at (q .ended))))
+      (λ z. record { here = inl (omega (arith, leb-true (length t) end z)) })
+      (λ z. stop-line sep t end within s (rw z at (q .ended))))
       (field-cases sep t at end quoted e)
 
   -- a row ends behind its beginning, in the text, at a line end or at the text's end
@@ -106,13 +106,13 @@ module _ (sep : ℕ) (t : List ℕ) where
       by-test (endsField sep t end)
       (λ h. let g : field.Whole end true ≡ field.Faulty place = rw h at e in absurd (let z : _≡_ {A = ℕ} 0 1 = cc in omega arith))
       (λ h.
-        let g : field.Faulty end ≡ field.Faulty place = rw h at e in
-        let same : end ≡ place = cc in
-        let r = closing-range false (at + 1) (drop (at + 1) t) end q in
-        record {
-          forward = omega (arith, r .0);
-          inside = omega (arith, r .1, length-drop (at + 1) t, there t at quote (sym o) (omega arith));
-        })
+      let g : field.Faulty end ≡ field.Faulty place = rw h at e in
+      let same : end ≡ place = cc in
+      let r = closing-range false (at + 1) (drop (at + 1) t) end q in
+      record {
+        forward = omega (arith, r .0);
+        inside = omega (arith, r .1, length-drop (at + 1) t, there t at quote (sym o) (omega arith));
+      })
 
   field-faulty : (at place : ℕ) → fieldAt sep t at ≡ field.Faulty place → Faulty at place
   unfolding fieldAt
@@ -136,7 +136,7 @@ module _ (sep : ℕ) (t : List ℕ) where
   faulty-step at place l next ih (field.Whole stop quoted) is e =
       by-test (separatorAt sep t stop)
       (λ s. faulty-more at stop place (spanOf at stop quoted) (field-forward sep t at stop quoted is) (next (stop + 1))
-        (ih (stop + 1) (omega (arith, separator-inside sep t stop s))) (rw s at e))
+      (ih (stop + 1) (omega (arith, separator-inside sep t stop s))) (rw s at e))
       (λ s. let g : whole (spanOf at stop quoted ∷ []) stop ≡ malformed place = rw s at e in absurd (let z : _≡_ {A = ℕ} 0 1 = cc in omega arith))
 
   faulty-by : (turns at : ℕ) → at ≤ length t → (place : ℕ) → rowBy turns sep t at ≡ malformed place → Faulty at place

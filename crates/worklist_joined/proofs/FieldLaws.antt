@@ -21,7 +21,7 @@ use Rattle.worklist.proofs.Rows.{field-forward, separator-inside}
 use Rattle.worklist.proofs.Fields.{Fields, last, more, fields-of}
 use Rattle.worklist.proofs.Told.{no-separator-told, no-row-told, row-told, column-here}
 use Rattle.worklist_joined.proofs.Ends.{Ends, fields-end}
-use Rattle.worklist_joined.specs.Joined.{fieldBytes, behindSeparators, joinedFields, FieldsJoined, fieldsOf, laidRow, copiedFields, HasFields}
+use Rattle.worklist_joined.specs.Joined.{fieldBytes, behindSeparators, joinedFields, FieldsJoined, fieldOf, fieldsOf, laidRow, copiedFields, HasFields}
 
 -- ---- the fields of a row, joined
 
@@ -169,12 +169,11 @@ pub record Joining (sep : ℕ) (t : List ℕ) (fields : List Span) (out₀ : Lis
   pub size : to ≡ length done
   pub laid : out ≡ overlay out₀ 0 done
 
-pub joining-first : (sep : ℕ) (t : List ℕ) (fields : List Span) (out₀ : List ℕ) → 0 < length fields
-    → (bytes : List ℕ) → bytes ≡ fieldBytes t (spanIn fields 0) → (out : List ℕ) → out ≡ overlay out₀ 0 bytes → Joining sep t fields out₀ (length bytes) 1 out
+first-split : (sep : ℕ) (t : List ℕ) (fields : List Span) → 0 < length fields → (first : List ℕ) → first ≡ fieldBytes t (spanIn fields 0)
+    → joinedFields sep t fields ≡ first ++ behindSeparators sep t (drop 1 fields)
 unfolding joinedFields spanIn
-joining-first sep t [] out₀ l bytes e out o = absurd (not-suc-le-zero l)
-joining-first sep t (f ∷ fields) out₀ l bytes e out o =
-    record { done = bytes; all = ap (λ b. b ++ behindSeparators sep t fields) (sym e); size = refl; laid = o }
+first-split sep t [] l first e = absurd (not-suc-le-zero l)
+first-split sep t (f ∷ fields) l first e = ap (λ b. b ++ behindSeparators sep t fields) (sym e)
 
 module _ {sep : ℕ} {t : List ℕ} {fields : List Span} {out₀ : List ℕ} {to column : ℕ} {out : List ℕ} (j : Joining sep t fields out₀ to column out) where
   pub joining-on : column < length fields → (bytes : List ℕ) → bytes ≡ fieldBytes t (spanIn fields column)
@@ -205,3 +204,42 @@ module _ {sep : ℕ} {t : List ℕ} {fields : List Span} {out₀ : List ℕ} {to
   unfolding behindSeparators
   joining-end l =
       j .laid ∙ ap (overlay out₀ 0) (sym (j .all ∙ ap (λ r. j .done ++ behindSeparators sep t r) (drop-of-length-le fields l) ∙ append-nil (j .done)))
+
+  -- the place behind the field, as the code has it
+  pub joining-put : column < length fields → (bytes : List ℕ) → bytes ≡ fieldBytes t (spanIn fields column)
+      → (next : ℕ) → next ≡ to + (1 + length bytes) → (o : List ℕ) → o ≡ overlay (overlay out to (sep ∷ [])) (to + 1) bytes
+      → Joining sep t fields out₀ next (column + 1) o
+  joining-put l bytes e next n o p =
+      subst (λ m. Joining sep t fields out₀ m (column + 1) o) (sym n) (joining-on l bytes e (overlay out to (sep ∷ [])) o refl p)
+
+-- ---- the first field, which is laid before the others
+
+overlay-over : (to a b : List ℕ) → overlay (overlay to 0 a) 0 (a ++ b) ≡ overlay to 0 (a ++ b)
+unfolding overlay
+overlay-over [] a b = refl
+overlay-over (x ∷ to) [] b = refl
+overlay-over (x ∷ to) (y ∷ a) b = ap (λ r. y ∷ r) (overlay-over to a b)
+
+module _ (sep : ℕ) (t : List ℕ) (fields : List Span) (some : 0 < length fields) (first : List ℕ) (is : first ≡ fieldBytes t (spanIn fields 0)) (entry out₀ : List ℕ)
+    (o : out₀ ≡ overlay entry 0 first) where
+  pub first-laid : Joining sep t fields out₀ (length first) 1 out₀
+  first-laid =
+      let again : out₀ ≡ overlay out₀ 0 first =
+      o ∙ sym (ap (λ x. overlay x 0 first) o ∙ ap (overlay (overlay entry 0 first) 0) (sym (append-nil first)) ∙ overlay-over entry first [] ∙ ap (overlay entry 0) (append-nil first)) in
+      record { done = first; all = first-split sep t fields some first is; size = refl; laid = again }
+
+  pub all-laid : {to column : ℕ} {out : List ℕ} → Joining sep t fields out₀ to column out → length fields ≤ column → out ≡ overlay entry 0 (joinedFields sep t fields)
+  all-laid j l =
+      let split = first-split sep t fields some first is in
+      joining-end j l ∙ ap₂ (λ x y. overlay x 0 y) o split ∙ overlay-over entry first (behindSeparators sep t (drop 1 fields)) ∙ ap (overlay entry 0) (sym split)
+
+-- ---- what put needs
+
+module _ {sep : ℕ} {t : List ℕ} {at count : ℕ} (h : HasFields sep t at count) {out₀ out : List ℕ} {to column : ℕ} (j : Joining sep t (fieldsOf (rowAt sep t at)) out₀ to column out) where
+  pub put-fits : column < count → to + (1 + length (fieldOf sep t at column)) ≤ length t
+  put-fits l =
+      omega (arith, joining-most (joining-put j (omega (arith, h .all)) (fieldOf sep t at column) (field-bytes h column l (fieldOf sep t at column) refl) _ refl _ refl), joined-size h)
+
+  pub put-on : column < count → (next : ℕ) → next ≡ to + (1 + length (fieldOf sep t at column))
+      → (o : List ℕ) → o ≡ overlay (overlay out to (sep ∷ [])) (to + 1) (fieldOf sep t at column) → Joining sep t (fieldsOf (rowAt sep t at)) out₀ next (column + 1) o
+  put-on l next n o p = joining-put j (omega (arith, h .all)) (fieldOf sep t at column) (field-bytes h column l (fieldOf sep t at column) refl) next n o p

@@ -124,10 +124,12 @@ module _ (sep : ℕ) (t : List ℕ) where
   row-next at l =
       let r = line-of at (omega arith) in
       let b = r .0 in
-      let e = r .1 in
-      (by-test (ltb (lineAt sep t at .end) (length t))
-        (λ h. omega (arith, b .further (ltb-true _ _ h), e .forward))
-        (λ h. omega (arith, b .forward, ltb-false (lineAt sep t at .end) (length t) h)), b .inside)
+      let e = r .1 in (
+        by-test (ltb (lineAt sep t at .end) (length t))
+            (λ h. omega (arith, b .further (ltb-true _ _ h), e .forward))
+            (λ h. omega (arith, b .forward, ltb-false (lineAt sep t at .end) (length t) h)),
+        b .inside,
+      )
 
   line-at : (at : ℕ) → lineAt sep t at .at ≡ at
   unfolding lineAt

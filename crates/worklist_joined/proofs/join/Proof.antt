@@ -1,52 +1,72 @@
+-- `worklist_joined::join`: the first field, and each other behind a separator.
+use mathlib.Core.Path.{refl, ap, _∙_}
+use Prim.Native.Nat.{_-_}
+use native.Mathlib.Omega.{arith}
+use lib.ListN.{length}
+use Rattle.parts.proofs.Laws.{overlay-length}
+use Rattle.worklist.specs.Rows.{rowAt, noSeparator}
+use Rattle.worklist.proofs.Told.{separator-byte}
+use Rattle.worklist_joined.specs.Joined.{fieldsOf}
+use Rattle.worklist_joined.proofs.FieldLaws.{Joining, field-bytes, first-laid, all-laid, put-fits, put-on}
+use borrow.Author.Needs.{needs}
 use Rattle.worklist_joined.proofs.join.Statement.{statement}
 use Rattle.worklist_joined.proofs.join.Tie as tie
-use Rattle.worklist_joined.proofs.join.Reads as reads
-use Rattle.worklist_joined.proofs.join.Lts as lts
-use Rattle.parts.proofs.copy.Reads as copy-reads
-use Rattle.worklist.proofs.field_part.Reads as field-part-reads
-use Rattle.worklist_joined.proofs.put.Reads as put-reads
 
 abbrev Inv-loop : tie.InvT-loop
-Inv-loop text at separator fields output₀ to₀ column₀ output to column = ?
+Inv-loop text at separator fields output₀ to₀ column₀ output to column = Joining separator text (fieldsOf (rowAt separator text at)) output₀ to column output
 
 abbrev μ-loop : tie.MeasureT-loop
-μ-loop text at separator fields output₀ to₀ column₀ output to column = ?
+μ-loop text at separator fields output₀ to₀ column₀ output to column = fields - column
 
--- src/lib.rt:94:9
 field-part-requires : tie.Need-field-part-requires Inv-loop μ-loop
-field-part-requires c κs = ?
+field-part-requires c κs = search needs
 
--- src/lib.rt:95:5
 copy-requires : tie.Need-copy-requires Inv-loop μ-loop
-copy-requires c κs = ?
+copy-requires c κs = search needs
 
--- src/lib.rt:98:5
 loop-holds : tie.Need-loop-holds Inv-loop μ-loop
-loop-holds c = ?
+loop-holds c =
+    let k = c in
+    let f = k .before .before .before .before in
+    let s = f .before .before .before in
+    first-laid (s .args .separator) (s .args .text .now) (fieldsOf (rowAt (s .args .separator) (s .args .text .now) (s .args .at))) (omega (arith, s .pre .some, s .pre .all)) _ (field-bytes (s .pre) 0 (s .pre .some) _ (f .field-part .ensures .0)) _ _ (k .before .before .copy .ensures)
 
--- src/lib.rt:99:9
 put-requires : tie.Need-put-requires Inv-loop μ-loop
-put-requires c κs = ?
+put-requires c κs =
+    let k = c .before .before .before in
+    let f = k .before .before .before .before in
+    let s = f .before .before .before in
+    let l = c .before .before .loop in
+    (separator-byte (s .args .separator) _ refl (s .pre .separator), omega (arith, put-fits (s .pre) (l .inv) (c .before .loop-test .taken)))
 
--- src/lib.rt:100:9
 add-column : tie.Need-add-column Inv-loop μ-loop
-add-column c = ?
+add-column c = omega (arith, c .before .before .before .before .loop-test .taken)
 
--- src/lib.rt:98:5
 loop-less : tie.Need-loop-less Inv-loop μ-loop
-loop-less c = ?
+loop-less c = omega (arith, c .before .before .before .before .loop-test .taken)
 
--- src/lib.rt:98:5
 loop-again : tie.Need-loop-again Inv-loop μ-loop
-loop-again c = ?
+loop-again c =
+    let i = c .before .before .before .before in
+    let k = i .before .before in
+    let f = k .before .before .before .before in
+    let s = f .before .before .before in
+    put-on (s .pre) (i .before .loop .inv) (i .loop-test .taken) _ (c .before .before .put .ensures .0) _ (c .before .before .put .ensures .1)
 
--- src/lib.rt:90:1
 same-length : tie.Need-same-length Inv-loop μ-loop
-same-length c = ?
+same-length c =
+    let k = c .before .before in
+    let f = k .before .before .before .before in
+    let s = f .before .before .before in
+    ap length (c .before .loop .inv .laid) ∙ overlay-length _ _ _ ∙ ap length (k .before .before .copy .ensures) ∙ overlay-length _ _ _
 
--- src/lib.rt:90:1
 returns : tie.Need-returns Inv-loop μ-loop
-returns c = ?
+returns c =
+    let k = c .before .before in
+    let f = k .before .before .before .before in
+    let s = f .before .before .before in
+    all-laid (s .args .separator) (s .args .text .now) (fieldsOf (rowAt (s .args .separator) (s .args .text .now) (s .args .at))) (omega (arith, s .pre .some, s .pre .all)) _ (field-bytes (s .pre) 0 (s .pre .some) _ (f .field-part .ensures .0)) _ _ (k .before .before .copy .ensures)
+    (c .before .loop .inv) (omega (arith, s .pre .all, c .loop-test .left))
 
 pub join-spec : {M : Type 1} → statement M
 join-spec =

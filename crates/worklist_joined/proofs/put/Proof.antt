@@ -1,50 +1,52 @@
+-- `worklist_joined::put`: a separator, and a field behind it.
+use mathlib.Core.Path.{ap, ap₂, _∙_}
+use Prim.Native.Nat.{_+_}
+use native.Mathlib.Omega.{arith}
+use lib.ListN.{length}
+use Rattle.parts.specs.Part.{overlay}
 use borrow.Author.Needs.{needs}
 use Rattle.worklist_joined.proofs.put.Statement.{statement}
 use Rattle.worklist_joined.proofs.put.Tie as tie
-use Rattle.worklist_joined.proofs.put.Reads as reads
-use Rattle.worklist_joined.proofs.put.Lts as lts
-use Rattle.parts.proofs.copy.Reads as copy-reads
-use Rattle.worklist.proofs.field_part.Reads as field-part-reads
 
--- src/lib.rt:82:20
 cast-t9 : tie.Need-cast-t9
 cast-t9 c = search needs
 
--- src/lib.rt:83:10
 slice-aggregate-copy : tie.Need-slice-aggregate-copy
 slice-aggregate-copy c = search needs
 
--- src/lib.rt:83:5
 copy-requires : tie.Need-copy-requires
 copy-requires c κs = search needs
 
--- src/lib.rt:84:9
 field-part-requires : tie.Need-field-part-requires
 field-part-requires c κs = search needs
 
--- src/lib.rt:85:25
 add-copy : tie.Need-add-copy
 add-copy c = search needs
 
--- src/lib.rt:85:5
 copy-requires-2 : tie.Need-copy-requires-2
 copy-requires-2 c κs = search needs
 
--- src/lib.rt:86:11
 add-result : tie.Need-add-result
 add-result c = search needs
 
--- src/lib.rt:86:5
 add-result-2 : tie.Need-add-result-2
-add-result-2 c = ?
+add-result-2 c =
+    let f = c .before .before .before .before in
+    let k = f .before .before .before in
+    let s = k .before .before .before .before .before in
+    omega (arith, s .pre .1, ap length (f .field-part .ensures .0))
 
--- src/lib.rt:77:1
 same-length : tie.Need-same-length
 same-length c = search needs
 
--- src/lib.rt:77:1
 returns : tie.Need-returns
-returns c = ?
+returns c =
+    let f = c .before .before .before .before in
+    let k = f .before .before .before in
+    let a = k .before .before .before .before .before .args in (
+      ap (λ b. a .to + (1 + length b)) (f .field-part .ensures .0),
+      c .before .before .copy2 .ensures ∙ ap₂ (λ o b. overlay o (a .to + 1) b) (k .copy .ensures) (f .field-part .ensures .0),
+    )
 
 pub put-spec : {M : Type 1} → statement M
 put-spec =
