@@ -18,11 +18,13 @@ use Rattle.refusal.specs.declared.Refusal.{Refusal}
 use Rattle.worklist.specs.declared.FieldAnswer.{FieldAnswer}
 use Rattle.worklist.specs.declared.FieldAnswer.the-variants as answer
 use Rattle.worklist.proofs.Rows.{field-forward, field-inside, separator-inside}
-use Rattle.worklist.specs.Rows.{fieldAt, Row, whole, malformed, inFront, separatorAt, separatorCheck, spanOf, rowStep, rowBy, rowAt, ofRow, spanValues, columnOf, fieldIn, fieldOutcome, placeOf, lengthOf, fieldPart, fieldTold}
+use Rattle.worklist.specs.Rows.{fieldAt, Row, whole, malformed, inFront, separatorAt, separatorCheck, spanOf, rowStep, rowBy, rowAt, ofRow}
+use Rattle.worklist.specs.Rows.{spanValues, columnOf, fieldIn, fieldOutcome, placeOf, lengthOf, fieldPart, fieldTold}
 
 -- The fields from a place on, up to where the row ends.
 pub data Fields (sep : ℕ) (t : List ℕ) : ℕ → List Span → ℕ → Type 0 where
-  last : {at end : ℕ} {quoted : Bool} → at ≤ length t → fieldAt sep t at ≡ field.Whole end quoted → separatorAt sep t end ≡ false → Fields sep t at (spanOf at end quoted ∷ []) end
+  last : {at end : ℕ} {quoted : Bool} → at ≤ length t → fieldAt sep t at ≡ field.Whole end quoted → separatorAt sep t end ≡ false
+      → Fields sep t at (spanOf at end quoted ∷ []) end
   more : {at stop end : ℕ} {quoted : Bool} {fields : List Span} → at ≤ length t → fieldAt sep t at ≡ field.Whole stop quoted → separatorAt sep t stop ≡ true
       → Fields sep t (stop + 1) fields end → Fields sep t at (spanOf at stop quoted ∷ fields) end
 
@@ -73,7 +75,8 @@ unfolding placeOf lengthOf
 nowhere t values = record { within = omega arith }
 
 module _ (sep : ℕ) (t : List ℕ) where
-  span-inside : (at end : ℕ) (quoted : Bool) → at ≤ length t → fieldAt sep t at ≡ field.Whole end quoted → Inside t (answered (spanValues (spanOf at end quoted)))
+  span-inside : (at end : ℕ) (quoted : Bool) → at ≤ length t → fieldAt sep t at ≡ field.Whole end quoted
+      → Inside t (answered (spanValues (spanOf at end quoted)))
   unfolding placeOf lengthOf spanValues
   span-inside at end quoted l e =
       record { within = omega (arith, field-forward sep t at end quoted e, field-inside sep t at end quoted l e) }
@@ -95,13 +98,15 @@ unfolding after placeOf lengthOf
 after-inside t silent told i = i
 after-inside t (refused number place) told i = record { within = omega arith }
 
+cond-inside : (t : List ℕ) (there : Bool) (told : Outcome) → (there ≡ true → Inside t told) → Inside t (cond there told (absent []))
+cond-inside t true told i = i refl
+cond-inside t false told i = nowhere t []
+
 pub outcome-inside : (t : List ℕ) (at sep column : ℕ) → Inside t (fieldOutcome t at sep column)
 unfolding ofRow
 outcome-inside t at sep column =
     after-inside t (separatorCheck sep) _
-    (by-test (ltb at (length t))
-    (λ e. rw e (field-in-inside sep t at column (omega (arith, ltb-true at (length t) e)) (rowAt sep t at) refl))
-    (λ e. rw e (nowhere t [])))
+    (cond-inside t _ _ (λ e. let l = ltb-true at (length t) e in field-in-inside sep t at column (omega arith) (rowAt sep t at) refl))
 
 -- A field that is found: its place and length are those that are told.
 pub record FoundAt (t : List ℕ) (told : Outcome) (f : Span) : Type 0 where

@@ -20,7 +20,8 @@ use Rattle.worklist.specs.declared.Span.{Span}
 use Rattle.worklist.specs.declared.Walked.{Walked}
 use Rattle.worklist.specs.declared.Walked.the-variants as walked
 use Rattle.worklist.proofs.Laws.{there}
-use Rattle.worklist.specs.Rows.{quote, stops, stopFrom, stopAt, closingFrom, closingAt, endsField, quotedField, fieldAt, Row, whole, malformed, inFront, separatorAt, spanOf, rowStep, rowBy, rowAt, RowRule, keptOf, spanIn, walkedOf}
+use Rattle.worklist.specs.Rows.{quote, stops, stopFrom, stopAt, closingFrom, closingAt, endsField, quotedField, fieldAt}
+use Rattle.worklist.specs.Rows.{Row, whole, malformed, inFront, separatorAt, spanOf, rowStep, rowBy, rowAt, RowRule, keptOf, spanIn, walkedOf}
 
 -- ---- where a field ends
 
@@ -86,7 +87,9 @@ module _ (sep : ℕ) (t : List ℕ) (at end : ℕ) (quoted : Bool) where
   pub field-inside : at ≤ length t → fieldAt sep t at ≡ field.Whole end quoted → end ≤ length t
   field-inside l e =
       ⊎-elim (λ p. omega (arith, stop-range sep at (drop at t) .1, p .stop, length-drop at t))
-      (λ q. omega (arith, closing-range false (at + 1) (drop (at + 1) t) end (q .closed) .1, length-drop (at + 1) t, there t at quote (sym (q .opened)) (omega arith)))
+      (λ q.
+      let l = there t at quote (sym (q .opened)) (omega arith) in
+      omega (arith, closing-range false (at + 1) (drop (at + 1) t) end (q .closed) .1, length-drop (at + 1) t))
       (field-cases e)
 
 -- ---- a row, one field on
@@ -172,7 +175,8 @@ module _ {sep : ℕ} {t : List ℕ} {at column from fields : ℕ} {found : Span}
   walked-malformed {place} e =
       sym (ap (λ r. walkedOf r column) (w .same ∙ ap (prepend (w .done)) (row-step sep t from ∙ rw e) ∙ prepend-malformed (w .done) place))
 
-  module _ (end : ℕ) (quoted : Bool) (is : fieldAt sep t from ≡ field.Whole end quoted) (next : Span) (n : next ≡ keptOf found (spanOf from end quoted) fields column) where
+  module _ (end : ℕ) (quoted : Bool) (is : fieldAt sep t from ≡ field.Whole end quoted) (next : Span)
+      (n : next ≡ keptOf found (spanOf from end quoted) fields column) where
     one-more : next ≡ spanIn (w .done ++ (spanOf from end quoted ∷ [])) column
     one-more =
         n ∙ ap₂ (λ f c. keptOf f (spanOf from end quoted) c column) (w .kept) (w .count)
@@ -185,13 +189,16 @@ module _ {sep : ℕ} {t : List ℕ} {at column from fields : ℕ} {found : Span}
     unfolding rowStep walkedOf
     walked-whole s =
         ap₂ (walked.Whole end) counted one-more
-        ∙ sym (ap (λ r. walkedOf r column) (w .same ∙ ap (prepend (w .done)) (row-step sep t from ∙ rw (is, s)) ∙ prepend-whole (w .done) (spanOf from end quoted ∷ []) end))
+        ∙ sym (ap (λ r. walkedOf r column)
+        (w .same ∙ ap (prepend (w .done)) (row-step sep t from ∙ rw (is, s)) ∙ prepend-whole (w .done) (spanOf from end quoted ∷ []) end))
 
     pub walking-on : separatorAt sep t end ≡ true → Walking sep t at column (end + 1) (fields + 1) next
     unfolding rowStep
     walking-on s = record {
       done = w .done ++ (spanOf from end quoted ∷ []);
-      same = w .same ∙ ap (prepend (w .done)) (row-step sep t from ∙ rw (is, s)) ∙ sym (prepend-one (w .done) (spanOf from end quoted) (rowAt sep t (end + 1)));
+      same =
+          w .same ∙ ap (prepend (w .done)) (row-step sep t from ∙ rw (is, s))
+          ∙ sym (prepend-one (w .done) (spanOf from end quoted) (rowAt sep t (end + 1)));
       count = counted;
       kept = one-more;
       few = omega (arith, w .few, field-forward sep t from end quoted is);

@@ -15,7 +15,8 @@ use Rattle.refusal.proofs.Laws.{said, quiet, after-said, after-quiet}
 use Rattle.worklist.specs.declared.Span.{Span}
 use Rattle.worklist.specs.declared.Walked.{Walked}
 use Rattle.worklist.specs.declared.Walked.the-variants as walked
-use Rattle.worklist.specs.Rows.{lf, noSeparator, separatorCheck, behindLineEnd, stopAt, Row, whole, malformed, rowValues, ofRow, spanValues, columnOf, fieldIn, spanIn, walkedOf}
+use Rattle.worklist.specs.Rows.{lf, noSeparator, separatorCheck, behindLineEnd, stopAt, Row, whole, malformed, rowEnd, rowKind, rowValues}
+use Rattle.worklist.specs.Rows.{ofRow, spanValues, columnOf, fieldIn, spanIn, walkedOf}
 
 -- ---- the separator, and whether a row begins
 
@@ -48,16 +49,16 @@ module _ (sep : ℕ) (bad : Bool) (e : bad ≡ noSeparator sep) where
 module _ (t : List ℕ) (column : ℕ) where
   pub whole-told : (r : Row) {end n : ℕ} {f : Span} → walkedOf r column ≡ walked.Whole end n f → (next : ℕ) → next ≡ behindLineEnd t end
       → answered (end ∷ next ∷ n ∷ 0 ∷ 0 ∷ []) ≡ answered (rowValues t r)
-  unfolding walkedOf rowValues
+  unfolding walkedOf rowValues rowEnd rowKind
   whole-told (whole fields stop) {end} {n} e next q =
       let same : stop ≡ end = cc in
       let count : length fields ≡ n = cc in
       rw (q, ← same, ← count)
   whole-told (malformed place) e next q = absurd (let z : _≡_ {A = ℕ} 0 1 = cc in omega arith)
 
-  pub malformed-told : (r : Row) {place : ℕ} → walkedOf r column ≡ walked.Malformed place → (end next : ℕ) → end ≡ stopAt lf t place → next ≡ behindLineEnd t end
-      → answered (end ∷ next ∷ 0 ∷ 1 ∷ place ∷ []) ≡ answered (rowValues t r)
-  unfolding walkedOf rowValues
+  pub malformed-told : (r : Row) {place : ℕ} → walkedOf r column ≡ walked.Malformed place → (end next : ℕ) → end ≡ stopAt lf t place
+      → next ≡ behindLineEnd t end → answered (end ∷ next ∷ 0 ∷ 1 ∷ place ∷ []) ≡ answered (rowValues t r)
+  unfolding walkedOf rowValues rowEnd rowKind
   malformed-told (whole fields stop) e end next p q = absurd (let z : _≡_ {A = ℕ} 0 1 = cc in omega arith)
   malformed-told (malformed at) {place} e end next p q =
       let same : at ≡ place = cc in

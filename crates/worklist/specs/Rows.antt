@@ -129,10 +129,14 @@ rowEnd t (malformed place) = stopAt lf t place
 
 -- ---- what is told
 
--- Where the row ends, where the next begins, the number of its fields, 0, 0; malformed: end, next, 0, 1, the place (rule D6).
+-- The number of its fields, 0, 0; malformed: 0, 1, the place (rule D6).
+unfoldable pub rowKind : Row → List ℕ
+rowKind (whole fields end) = length fields ∷ 0 ∷ 0 ∷ []
+rowKind (malformed place) = 0 ∷ 1 ∷ place ∷ []
+
+-- Where the row ends and where the next begins stand before these (rule D6).
 unfoldable pub rowValues : List ℕ → Row → List ℕ
-rowValues t (whole fields end) = end ∷ behindLineEnd t end ∷ length fields ∷ 0 ∷ 0 ∷ []
-rowValues t (malformed place) = stopAt lf t place ∷ behindLineEnd t (stopAt lf t place) ∷ 0 ∷ 1 ∷ place ∷ []
+rowValues t r = rowEnd t r ∷ behindLineEnd t (rowEnd t r) ∷ rowKind r
 
 -- Told of a row: a separator that is none is refused before anything else (rule D1), and a row begins at any byte before the
 -- text's end (rule D5).

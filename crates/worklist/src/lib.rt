@@ -283,7 +283,8 @@ pub fn field(text: &[u8], at: usize, separator: u32, column: usize) -> FieldAnsw
 // The bytes of that field, as the part of the text where it stands; empty where there is none.
 pub fn field_part(text: &[u8], at: usize, separator: u32, column: usize) -> &[u8]
     ensures { λ r. ⌜ now r ≡ spec.fieldPart (now (text .entry)) (spec.fieldOutcome (now (text .entry)) at separator column) ⌝ }
-    ensures { λ r. ⌜ (r .ptr .0 ≡ text .entry .ptr .0) × (r .ptr .1 ≡ text .entry .ptr .1 + spec.placeOf (spec.fieldOutcome (now (text .entry)) at separator column)) ⌝ }
+    ensures { λ r. ⌜ r .ptr .0 ≡ text .entry .ptr .0 ⌝ }
+    ensures { λ r. ⌜ r .ptr .1 ≡ text .entry .ptr .1 + spec.placeOf (spec.fieldOutcome (now (text .entry)) at separator column) ⌝ }
 {
     match field(text, at, separator, column) {
         FieldAnswer::Found(found) => {

@@ -121,7 +121,8 @@ module _ (sep : ℕ) (t : List ℕ) where
       (λ h. by-closing at place (eqb-true _ _ h) (closingAt t (at + 1)) refl (rw h at e))
       (λ h. let g : field.Whole (stopAt sep t at) false ≡ field.Faulty place = rw h at e in absurd (let z : _≡_ {A = ℕ} 0 1 = cc in omega arith))
 
-  faulty-more : (at stop place : ℕ) (f : Span) → at ≤ stop → (r : Row) → ((p : ℕ) → r ≡ malformed p → Faulty (stop + 1) p) → inFront f r ≡ malformed place → Faulty at place
+  faulty-more : (at stop place : ℕ) (f : Span) → at ≤ stop → (r : Row) → ((p : ℕ) → r ≡ malformed p → Faulty (stop + 1) p)
+      → inFront f r ≡ malformed place → Faulty at place
   unfolding inFront
   faulty-more at stop place f l (whole fields end) ih e = absurd (let z : _≡_ {A = ℕ} 0 1 = cc in omega arith)
   faulty-more at stop place f l (malformed p) ih e =

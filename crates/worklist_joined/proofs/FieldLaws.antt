@@ -14,14 +14,15 @@ use Rattle.parts.specs.Part.{byteAt, partAt, overlay}
 use Rattle.parts.proofs.Laws.{by-test, both, overlay-after, partAt-length}
 use Rattle.parts.proofs.Parts.{part-add}
 use Rattle.worklist.specs.declared.Span.{Span}
-use Rattle.worklist.specs.Rows.{noSeparator, separatorAt, spanOf, Row, whole, malformed, rowAt, rowValues, ofRow, rowOutcome}
+use Rattle.worklist.specs.Rows.{noSeparator, separatorAt, spanOf, Row, whole, malformed, rowAt, rowEnd, rowKind, rowValues, ofRow, rowOutcome}
 use Rattle.worklist.specs.Rows.{spanValues, columnOf, fieldIn, fieldOutcome, placeOf, lengthOf, fieldPart, spanIn}
 use Rattle.worklist.proofs.Laws.{behind}
 use Rattle.worklist.proofs.Rows.{field-forward, separator-inside}
 use Rattle.worklist.proofs.Fields.{Fields, last, more, fields-of}
 use Rattle.worklist.proofs.Told.{no-separator-told, no-row-told, row-told, column-here}
 use Rattle.worklist_joined.proofs.Ends.{Ends, fields-end}
-use Rattle.worklist_joined.specs.Joined.{fieldBytes, behindSeparators, joinedFields, FieldsJoined, fieldOf, fieldsOf, laidRow, copiedFields, HasFields}
+use Rattle.worklist_joined.specs.Joined.{fieldBytes, behindSeparators, joinedFields, FieldsJoined, fieldOf, fieldsOf, joinedRow, laidField, laidRow}
+use Rattle.worklist_joined.specs.Joined.{copiedFields, HasFields}
 
 -- ---- the fields of a row, joined
 
@@ -39,7 +40,8 @@ module _ (sep : ℕ) (t : List ℕ) where
   separator-and-part : (stop end : ℕ) → stop < end → separatorAt sep t stop ≡ true → sep ∷ partAt t (stop + 1) (end - (stop + 1)) ≡ partAt t stop (end - stop)
   separator-and-part stop end l s =
       let size : end - stop ≡ suc (end - (stop + 1)) = omega arith in
-      sym (ap₂ take size (behind t stop (separator-inside sep t stop s)) ∙ ap (λ b. b ∷ partAt t (stop + 1) (end - (stop + 1))) (separator-byte-at sep t stop s))
+      sym (ap₂ take size (behind t stop (separator-inside sep t stop s))
+      ∙ ap (λ b. b ∷ partAt t (stop + 1) (end - (stop + 1))) (separator-byte-at sep t stop s))
 
   two-parts : (at stop end : ℕ) → at ≤ stop → stop ≤ end → partAt t at (stop - at) ++ partAt t stop (end - stop) ≡ partAt t at (end - at)
   two-parts at stop end l m =
@@ -72,7 +74,7 @@ wholeRow (refusal number place) = false
 
 module _ (sep : ℕ) (t : List ℕ) (at : ℕ) where
   malformed-stays : (r : Row) (out : List ℕ) → wholeRow (answered (rowValues t r)) ≡ false → laidRow t at r out ≡ out
-  unfolding wholeRow rowValues laidRow
+  unfolding wholeRow rowValues rowEnd rowKind laidRow
   malformed-stays (whole fields end) out e = absurd (false≢true (sym e))
   malformed-stays (malformed place) out e = refl
 
@@ -84,8 +86,9 @@ module _ (sep : ℕ) (t : List ℕ) (at : ℕ) where
       (λ l. rw (h, l) (sym (malformed-stays (rowAt sep t at) out (ap wholeRow (row-told sep false (sym h) t at _ refl (ltb-true _ _ l) refl ∙ sym e) ∙ w))))
       (λ l. rw (h, l)))
 
-  count-told : (r : Row) → rowAt sep t at ≡ r → at < length t → (end next n : ℕ) → (end ∷ next ∷ n ∷ 0 ∷ 0 ∷ []) ≡ rowValues t r → (0 < n) × (n ≡ length (fieldsOf r))
-  unfolding rowValues fieldsOf
+  count-told : (r : Row) → rowAt sep t at ≡ r → at < length t → (end next n : ℕ) → (end ∷ next ∷ n ∷ 0 ∷ 0 ∷ []) ≡ rowValues t r
+      → (0 < n) × (n ≡ length (fieldsOf r))
+  unfolding rowValues rowEnd rowKind fieldsOf
   count-told (whole fields stop) is l end next n e =
       let count : n ≡ length fields = cc in
       (omega (arith, fields-some sep t (fields-of sep t at (omega arith) fields stop is)), count)
@@ -138,7 +141,7 @@ module _ {sep : ℕ} {t : List ℕ} {at count : ℕ} (h : HasFields sep t at cou
   row-whole (malformed place) is l out = absurd (omega arith)
 
   -- joined, they are the row
-  pub joined-row : (out : List ℕ) → overlay out 0 (joinedFields sep t (fieldsOf (rowAt sep t at))) ≡ copiedFields sep t at out
+  pub joined-row : (out : List ℕ) → overlay out 0 (joinedRow sep t at) ≡ copiedFields sep t at out
   joined-row out =
       rw (h .separator, lt-ltb at (length t) (h .inside))
       (row-whole (rowAt sep t at) refl (omega (arith, h .some, h .all)) out)
@@ -149,7 +152,7 @@ module _ {sep : ℕ} {t : List ℕ} {at count : ℕ} (h : HasFields sep t at cou
       omega (arith, ap length (fields-joined sep t at (h .inside) fields end is), partAt-length t at (end - at))
   size-by (malformed place) is = omega arith
 
-  pub joined-size : length (joinedFields sep t (fieldsOf (rowAt sep t at))) ≤ length t
+  pub joined-size : length (joinedRow sep t at) ≤ length t
   joined-size = size-by (rowAt sep t at) refl
 
 -- ---- joining field after field
@@ -220,26 +223,34 @@ overlay-over [] a b = refl
 overlay-over (x ∷ to) [] b = refl
 overlay-over (x ∷ to) (y ∷ a) b = ap (λ r. y ∷ r) (overlay-over to a b)
 
-module _ (sep : ℕ) (t : List ℕ) (fields : List Span) (some : 0 < length fields) (first : List ℕ) (is : first ≡ fieldBytes t (spanIn fields 0)) (entry out₀ : List ℕ)
-    (o : out₀ ≡ overlay entry 0 first) where
-  pub first-laid : Joining sep t fields out₀ (length first) 1 out₀
+overlay-again : (to a : List ℕ) → overlay (overlay to 0 a) 0 a ≡ overlay to 0 a
+overlay-again to a =
+    ap (overlay (overlay to 0 a) 0) (sym (append-nil a)) ∙ overlay-over to a [] ∙ ap (overlay to 0) (append-nil a)
+
+module _ {sep : ℕ} {t : List ℕ} {at count : ℕ} (h : HasFields sep t at count) (first : List ℕ) (is : first ≡ fieldOf sep t at 0)
+    (entry out₀ : List ℕ) (o : out₀ ≡ overlay entry 0 first) where
+  split : joinedRow sep t at ≡ first ++ behindSeparators sep t (drop 1 (fieldsOf (rowAt sep t at)))
+  split =
+      first-split sep t (fieldsOf (rowAt sep t at)) (omega (arith, h .some, h .all)) first (field-bytes h 0 (h .some) first is)
+
+  pub first-laid : Joining sep t (fieldsOf (rowAt sep t at)) out₀ (length first) 1 out₀
   first-laid =
-      let again : out₀ ≡ overlay out₀ 0 first =
-      o ∙ sym (ap (λ x. overlay x 0 first) o ∙ ap (overlay (overlay entry 0 first) 0) (sym (append-nil first)) ∙ overlay-over entry first [] ∙ ap (overlay entry 0) (append-nil first)) in
-      record { done = first; all = first-split sep t fields some first is; size = refl; laid = again }
+      record { done = first; all = split; size = refl; laid = o ∙ sym (ap (λ x. overlay x 0 first) o ∙ overlay-again entry first) }
 
-  pub all-laid : {to column : ℕ} {out : List ℕ} → Joining sep t fields out₀ to column out → length fields ≤ column → out ≡ overlay entry 0 (joinedFields sep t fields)
+  pub all-laid : {to column : ℕ} {out : List ℕ} → Joining sep t (fieldsOf (rowAt sep t at)) out₀ to column out → count ≤ column
+      → out ≡ overlay entry 0 (joinedRow sep t at)
   all-laid j l =
-      let split = first-split sep t fields some first is in
-      joining-end j l ∙ ap₂ (λ x y. overlay x 0 y) o split ∙ overlay-over entry first (behindSeparators sep t (drop 1 fields)) ∙ ap (overlay entry 0) (sym split)
+      joining-end j (omega (arith, h .all)) ∙ ap₂ (λ x y. overlay x 0 y) o split
+      ∙ overlay-over entry first (behindSeparators sep t (drop 1 (fieldsOf (rowAt sep t at)))) ∙ ap (overlay entry 0) (sym split)
 
--- ---- what put needs
+-- ---- one field more
 
-module _ {sep : ℕ} {t : List ℕ} {at count : ℕ} (h : HasFields sep t at count) {out₀ out : List ℕ} {to column : ℕ} (j : Joining sep t (fieldsOf (rowAt sep t at)) out₀ to column out) where
-  pub put-fits : column < count → to + (1 + length (fieldOf sep t at column)) ≤ length t
-  put-fits l =
-      omega (arith, joining-most (joining-put j (omega (arith, h .all)) (fieldOf sep t at column) (field-bytes h column l (fieldOf sep t at column) refl) _ refl _ refl), joined-size h)
+module _ {sep : ℕ} {t : List ℕ} {at count : ℕ} (h : HasFields sep t at count) {out₀ out : List ℕ} {to column : ℕ}
+    (j : Joining sep t (fieldsOf (rowAt sep t at)) out₀ to column out) (l : column < count) where
+  pub put-on : (next : ℕ) → next ≡ to + (1 + length (fieldOf sep t at column)) → (o : List ℕ) → o ≡ laidField sep t at column out to
+      → Joining sep t (fieldsOf (rowAt sep t at)) out₀ next (column + 1) o
+  put-on next n o p =
+      joining-put j (omega (arith, h .all)) (fieldOf sep t at column) (field-bytes h column l (fieldOf sep t at column) refl) next n o p
 
-  pub put-on : column < count → (next : ℕ) → next ≡ to + (1 + length (fieldOf sep t at column))
-      → (o : List ℕ) → o ≡ overlay (overlay out to (sep ∷ [])) (to + 1) (fieldOf sep t at column) → Joining sep t (fieldsOf (rowAt sep t at)) out₀ next (column + 1) o
-  put-on l next n o p = joining-put j (omega (arith, h .all)) (fieldOf sep t at column) (field-bytes h column l (fieldOf sep t at column) refl) next n o p
+  pub put-fits : to + (1 + length (fieldOf sep t at column)) ≤ length t
+  put-fits = omega (arith, joining-most (put-on _ refl _ refl), joined-size h)

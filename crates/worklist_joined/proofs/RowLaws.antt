@@ -17,12 +17,12 @@ use Rattle.parts.proofs.Laws.{by-test, overlay-none, overlay-after}
 use Rattle.parts.proofs.Parts.{part-add}
 use Rattle.worklist.specs.declared.RowAnswer.{RowAnswer}
 use Rattle.worklist.specs.declared.RowAnswer.the-variants as answer
-use Rattle.worklist.specs.Rows.{cr, lf, noSeparator, behindLineEnd, stops, Row, whole, malformed, rowAt, rowEnd, rowValues, ofRow, rowOutcome, lengthOf, rowTold}
+use Rattle.worklist.specs.Rows.{cr, lf, noSeparator, behindLineEnd, stops, Row, whole, malformed, rowAt, rowEnd, rowValues, rowOutcome, lengthOf, rowTold}
 use Rattle.worklist.proofs.Laws.{there, behind}
 use Rattle.worklist.proofs.Told.{no-separator-told, no-row-told, row-told}
 use Rattle.worklist_joined.proofs.Ends.{EndsLine, Ends, row-ends}
-use Rattle.worklist_joined.specs.Joined.{Line, lineAt, rowsBy, rowsOf, lineBytes, joinedRows, LineEnd, by-lf, by-cr-lf, by-cr, at-end, RowWithEnd, RowsJoined}
-use Rattle.worklist_joined.specs.Joined.{rowCount, copiedRows}
+use Rattle.worklist_joined.specs.Joined.{Line, lineAt, rowsBy, rowsOf, lineBytes, joinedRows, RowWithEnd, RowsJoined, rowCount, copiedRows}
+use Rattle.worklist_joined.specs.Joined.{LineEnd, by-lf, by-cr-lf, by-cr, at-end}
 
 -- ---- the line end of a row
 
@@ -64,7 +64,9 @@ module _ (t : List ℕ) (at end next : ℕ) (n : next ≡ behindLineEnd t end) w
       record {
         line-end = cr ∷ lf ∷ [];
         ends = by-cr-lf;
-        bytes = ap (partAt t end) size ∙ part-add t end 1 1 ∙ ap₂ _++_ (one-byte t end cr (sym e) (omega arith)) (one-byte t (end + 1) lf (sym f) (omega arith));
+        bytes =
+            ap (partAt t end) size ∙ part-add t end 1 1
+            ∙ ap₂ _++_ (one-byte t end cr (sym e) (omega arith)) (one-byte t (end + 1) lf (sym f) (omega arith));
         forward = omega arith;
         inside = omega (arith, there t (end + 1) lf (sym f) (omega arith));
         further = λ h. omega arith;
@@ -147,7 +149,8 @@ module _ (sep : ℕ) (t : List ℕ) where
         bytes = at-here at line (line-at at) (r .0 .bytes) size place;
       }
     where
-      at-here : (at : ℕ) (line : Line) → line .at ≡ at → {e : List ℕ} → partAt t (line .end) (line .next - line .end) ≡ e → line .next - at ≡ (line .end - at) + (line .next - line .end)
+      at-here : (at : ℕ) (line : Line) → line .at ≡ at → {e : List ℕ} → partAt t (line .end) (line .next - line .end) ≡ e
+          → line .next - at ≡ (line .end - at) + (line .next - line .end)
           → at + (line .end - at) ≡ line .end → lineBytes t line ≡ partAt t (line .at) (line .end - line .at) ++ e
       at-here at line is {e} b size place =
           rw (is, size, part-add t at (line .end - at) (line .next - line .end), place, b)
@@ -211,9 +214,8 @@ module _ (t : List ℕ) (at sep : ℕ) where
   separator-known r e b h = sym refusal-is ∙ sym (ap isRefusal e) ∙ h
 
 second-value : (t : List ℕ) (r : Row) → lengthOf (answered (rowValues t r)) ≡ behindLineEnd t (rowEnd t r)
-unfolding lengthOf rowValues rowEnd
-second-value t (whole fields end) = refl
-second-value t (malformed place) = refl
+unfolding lengthOf rowValues
+second-value t r = refl
 
 pub next-known : (t : List ℕ) (at sep : ℕ) → noSeparator sep ≡ false → at < length t
     → (r : RowAnswer) → rowTold r ≡ rowOutcome t at sep → (n : ℕ) → lengthOf (rowTold r) ≡ n → n ≡ lineAt sep t at .next
@@ -250,7 +252,8 @@ module _ {sep : ℕ} {t out₀ out : List ℕ} {count at : ℕ} (c : Copying sep
       ap₂ (λ o n. overlay o n (partAt t at (next - at))) (c .copied) (sym size) ∙ overlay-after out₀ 0 (take at t) (partAt t at (next - at))
       ∙ ap (overlay out₀ 0) (sym (take-add at (next - at) t) ∙ ap (λ n. take n t) place)
 
-  row-counted : (turns : ℕ) → length t - at ≤ turns → at < length t → count + length (rowsBy turns sep t at) ≡ length (rowsOf sep t) → (next : ℕ) → next ≡ lineAt sep t at .next
+  row-counted : (turns : ℕ) → length t - at ≤ turns → at < length t → count + length (rowsBy turns sep t at) ≡ length (rowsOf sep t)
+      → (next : ℕ) → next ≡ lineAt sep t at .next
       → (left : List ℕ) → left ≡ overlay out at (partAt t at (next - at)) → Copying sep t out₀ (count + 1) next left
   row-counted zero f l e next n left g = absurd (omega arith)
   row-counted (suc turns) f l e next n left g =
@@ -264,7 +267,8 @@ module _ {sep : ℕ} {t out₀ out : List ℕ} {count at : ℕ} (c : Copying sep
         copied = g ∙ laid next (omega (arith, n, r .0));
       }
 
-  pub copying-on : at < length t → (next : ℕ) → next ≡ lineAt sep t at .next → (left : List ℕ) → left ≡ overlay out at (partAt t at (next - at)) → Copying sep t out₀ (count + 1) next left
+  pub copying-on : at < length t → (next : ℕ) → next ≡ lineAt sep t at .next
+      → (left : List ℕ) → left ≡ overlay out at (partAt t at (next - at)) → Copying sep t out₀ (count + 1) next left
   copying-on l next n left g = row-counted (c .turns) (c .enough) l (c .rows) next n left g
 
   pub copied-all : noSeparator sep ≡ false → length t ≤ at → (count ≡ rowCount sep t) × (out ≡ copiedRows sep t out₀)

@@ -90,6 +90,13 @@ unfoldable pub fieldsOf : Row → List Span
 fieldsOf (whole fields end) = fields
 fieldsOf (malformed place) = []
 
+abbrev pub joinedRow : ℕ → List ℕ → ℕ → List ℕ
+joinedRow sep t at = joinedFields sep t (fieldsOf (rowAt sep t at))
+
+-- A separator at a place of the output, and a field behind it.
+abbrev pub laidField : ℕ → List ℕ → ℕ → ℕ → List ℕ → ℕ → List ℕ
+laidField sep t at column out to = overlay (overlay out to (sep ∷ [])) (to + 1) (fieldOf sep t at column)
+
 -- What copy_fields leaves: the row's bytes from the output's start on; no byte changes where there is no row, or where it is malformed.
 unfoldable pub laidRow : List ℕ → ℕ → Row → List ℕ → List ℕ
 laidRow t at (whole fields end) out = overlay out 0 (partAt t at (end - at))

@@ -6,7 +6,6 @@ use worklist::field_part;
 use worklist::row;
 ghost use mathlib.Core.Path.{_≡_};
 ghost use mathlib.Core.Bool.{false, not};
-ghost use mathlib.Core.List.{[], _∷_};
 ghost use Prim.Native.Nat.{_+_, _^_, _<_, _≤_};
 ghost use lib.ListN.{length};
 ghost use Rattle.parts.specs.Part.{overlay};
@@ -77,7 +76,7 @@ pub fn copy_rows(text: &[u8], separator: u32, output: &mut [u8]) -> usize
 fn put(text: &[u8], at: usize, separator: u32, column: usize, output: &mut [u8], to: usize) -> usize
     requires { ⌜ (separator ≤ 255) × (to + (1 + length (spec.fieldOf separator (now text) at column)) < 2 ^ 64) ⌝ }
     ensures { λ r. ⌜ r ≡ to + (1 + length (spec.fieldOf separator (now (text .entry)) at column)) ⌝ }
-    ensures { λ _. ⌜ now (output .exit) ≡ overlay (overlay (now (output .entry)) to (separator ∷ [])) (to + 1) (spec.fieldOf separator (now (text .entry)) at column) ⌝ }
+    ensures { λ _. ⌜ now (output .exit) ≡ spec.laidField separator (now (text .entry)) at column (now (output .entry)) to ⌝ }
 {
     let between = [separator as u8];
     copy(&between, output, to);
@@ -89,7 +88,7 @@ fn put(text: &[u8], at: usize, separator: u32, column: usize, output: &mut [u8],
 // Copies the fields of a row to the start of the output, with a separator between each two.
 fn join(text: &[u8], at: usize, separator: u32, fields: usize, output: &mut [u8])
     requires { ⌜ spec.HasFields separator (now text) at fields ⌝ }
-    ensures { λ _. ⌜ now (output .exit) ≡ overlay (now (output .entry)) 0 (spec.joinedFields separator (now (text .entry)) (spec.fieldsOf (rows.rowAt separator (now (text .entry)) at))) ⌝ }
+    ensures { λ _. ⌜ now (output .exit) ≡ overlay (now (output .entry)) 0 (spec.joinedRow separator (now (text .entry)) at) ⌝ }
 {
     let first = field_part(text, at, separator, 0);
     copy(first, output, 0);

@@ -9,9 +9,6 @@ use borrow.Author.Needs.{needs}
 use Rattle.worklist.proofs.behind_line_end.Statement.{statement}
 use Rattle.worklist.proofs.behind_line_end.Tie as tie
 
-byte-requires : tie.Need-byte-requires
-byte-requires c κs = search needs
-
 add-result : tie.Need-add-result
 add-result c =
     let a = c .before .before .before .args in
@@ -33,9 +30,6 @@ add-byte c =
     let a = k .before .before .args in
     omega (arith, there (a .text .now) (a .at) (k .byte .result) (k .byte .ensures) (omega (arith, c .if2 .left)))
 
-byte-requires-2 : tie.Need-byte-requires-2
-byte-requires-2 c κs = search needs
-
 add-result-2 : tie.Need-add-result-2
 add-result-2 c =
     let a = c .before .before .before .before .before .before .args in
@@ -45,7 +39,8 @@ returns-3 : tie.Need-returns-3
 unfolding behindLineEnd
 returns-3 c =
     let first = c .before .before .before .before .byte .ensures in
-    rw (ne-eqb _ _ (λ e. c .before .before .before .if1 .left (first ∙ e)), eq-eqb _ _ (sym first ∙ c .before .before .if2 .left), eq-eqb _ _ (sym (c .before .byte2 .ensures) ∙ c .if3 .taken))
+    let is-cr = sym first ∙ c .before .before .if2 .left in
+    rw (ne-eqb _ _ (λ e. c .before .before .before .if1 .left (first ∙ e)), eq-eqb _ _ is-cr, eq-eqb _ _ (sym (c .before .byte2 .ensures) ∙ c .if3 .taken))
 
 add-result-3 : tie.Need-add-result-3
 add-result-3 c =
@@ -57,18 +52,19 @@ returns-4 : tie.Need-returns-4
 unfolding behindLineEnd
 returns-4 c =
     let first = c .before .before .before .before .byte .ensures in
-    rw (ne-eqb _ _ (λ e. c .before .before .before .if1 .left (first ∙ e)), eq-eqb _ _ (sym first ∙ c .before .before .if2 .left), ne-eqb _ _ (λ e. c .if3 .left (c .before .byte2 .ensures ∙ e)))
+    let is-cr = sym first ∙ c .before .before .if2 .left in
+    rw (ne-eqb _ _ (λ e. c .before .before .before .if1 .left (first ∙ e)), eq-eqb _ _ is-cr, ne-eqb _ _ (λ e. c .if3 .left (c .before .byte2 .ensures ∙ e)))
 
 pub behind-line-end-spec : {M : Type 1} → statement M
 behind-line-end-spec =
     tie.close
     (tie.spec
-    byte-requires
+    (λ c κs. search needs)
     add-result
     returns
     returns-2
     add-byte
-    byte-requires-2
+    (λ c κs. search needs)
     add-result-2
     returns-3
     add-result-3

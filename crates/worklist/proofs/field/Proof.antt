@@ -7,9 +7,6 @@ use borrow.Author.Needs.{needs}
 use Rattle.worklist.proofs.field.Statement.{statement}
 use Rattle.worklist.proofs.field.Tie as tie
 
-no-separator-requires : tie.Need-no-separator-requires
-no-separator-requires c κs = search needs
-
 returns : tie.Need-returns
 unfolding fieldTold
 returns c = no-separator-told _ _ (c .before .no-separator .ensures) _ _ _ (c .if1 .taken)
@@ -22,15 +19,6 @@ cast-walk : tie.Need-cast-walk
 cast-walk c =
     let n = c .before .before in
     omega (arith, separator-byte (n .before .before .args .separator) (n .no-separator .result) (n .no-separator .ensures) (c .before .if1 .left))
-
-walk-requires : tie.Need-walk-requires
-walk-requires c κs = search needs
-
-enum-told : tie.Need-enum-told
-enum-told c = search needs
-
-enum-known-fields : tie.Need-enum-known-fields
-enum-known-fields c = search needs
 
 returns-3 : tie.Need-returns-3
 unfolding fieldTold
@@ -60,13 +48,13 @@ pub field-spec : {M : Type 1} → statement M
 field-spec =
     tie.close
     (tie.spec
-    no-separator-requires
+    (λ c κs. search needs)
     returns
     returns-2
     cast-walk
-    walk-requires
-    enum-told
-    enum-known-fields
+    (λ c κs. search needs)
+    (λ c. search needs)
+    (λ c. search needs)
     returns-3
     returns-4
     returns-5)

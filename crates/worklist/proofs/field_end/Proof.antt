@@ -5,12 +5,6 @@ use borrow.Author.Needs.{needs}
 use Rattle.worklist.proofs.field_end.Statement.{statement}
 use Rattle.worklist.proofs.field_end.Tie as tie
 
-byte-requires : tie.Need-byte-requires
-byte-requires c κs = search needs
-
-stop-from-requires : tie.Need-stop-from-requires
-stop-from-requires c κs = search needs
-
 returns : tie.Need-returns
 returns c = plain-field _ _ _ _ (c .before .before .byte .ensures) (c .before .if1 .taken) _ (c .stop-from .ensures)
 
@@ -19,22 +13,11 @@ add-closing-from c =
     let a = c .before .before .before .args in
     omega (arith, there (a .text .now) (a .at) (c .before .byte .result) (c .before .byte .ensures) (omega (arith, c .if1 .left)))
 
-closing-from-requires : tie.Need-closing-from-requires
-closing-from-requires c κs = search needs
-
-enum-told : tie.Need-enum-told
-enum-told c = search needs
-
-enum-known-end : tie.Need-enum-known-end
-enum-known-end c = search needs
-
-ends-field-requires : tie.Need-ends-field-requires
-ends-field-requires c κs = search needs
-
 returns-2 : tie.Need-returns-2
 returns-2 c =
     let k = c .before .before .before .before .before in
-    closed-well _ _ _ _ (k .before .before .byte .ensures) (k .before .if1 .left) _ (k .closing-from .ensures) (c .before .before .before .end .given .1) _ (c .before .ends-field .ensures) (c .if2 .taken)
+    closed-well _ _ _ _ (k .before .before .byte .ensures) (k .before .if1 .left) _ (k .closing-from .ensures)
+    (c .before .before .before .end .given .1) _ (c .before .ends-field .ensures) (c .if2 .taken)
 
 returns-3 : tie.Need-returns-3
 returns-3 c =
@@ -44,20 +27,21 @@ returns-3 c =
 returns-4 : tie.Need-returns-4
 returns-4 c =
     let k = c .before .before .before .before .before in
-    closed-ill _ _ _ _ (k .before .before .byte .ensures) (k .before .if1 .left) _ (k .closing-from .ensures) (c .before .before .before .end .given .1) _ (c .before .ends-field .ensures) (c .if2 .left)
+    closed-ill _ _ _ _ (k .before .before .byte .ensures) (k .before .if1 .left) _ (k .closing-from .ensures)
+    (c .before .before .before .end .given .1) _ (c .before .ends-field .ensures) (c .if2 .left)
 
 pub field-end-spec : {M : Type 1} → statement M
 field-end-spec =
     tie.close
     (tie.spec
-    byte-requires
-    stop-from-requires
+    (λ c κs. search needs)
+    (λ c κs. search needs)
     returns
     add-closing-from
-    closing-from-requires
-    enum-told
-    enum-known-end
-    ends-field-requires
+    (λ c κs. search needs)
+    (λ c. search needs)
+    (λ c. search needs)
+    (λ c κs. search needs)
     returns-2
     returns-3
     returns-4)

@@ -6,12 +6,6 @@ use borrow.Author.Needs.{needs}
 use Rattle.worklist.proofs.field_part.Statement.{statement}
 use Rattle.worklist.proofs.field_part.Tie as tie
 
-field-requires : tie.Need-field-requires
-field-requires c κs = search needs
-
-enum-known-found : tie.Need-enum-known-found
-enum-known-found c = search needs
-
 add-end : tie.Need-add-end
 add-end c =
     let f = c .before .before .before .before in
@@ -19,42 +13,12 @@ add-end c =
     let g = found-at (a .text .now) (a .at) (a .separator) (a .column) (f .field .result) (f .field .ensures) (c .before .before .found .given .1) in
     omega (arith, g .inside)
 
-sub-result : tie.Need-sub-result
-sub-result c = search needs
-
-part-result-start : tie.Need-part-result-start
-part-result-start c = search needs
-
 part-result-end : tie.Need-part-result-end
 part-result-end c =
     let f = c .before .before .before .before in
     let a = f .before .before .args in
     let g = found-at (a .text .now) (a .at) (a .separator) (a .column) (f .field .result) (f .field .ensures) (c .before .before .found .given .1) in
     omega (arith, g .inside)
-
-enum-told : tie.Need-enum-told
-enum-told c = search needs
-
-sub-result-2 : tie.Need-sub-result-2
-sub-result-2 c = search needs
-
-part-result-start-2 : tie.Need-part-result-start-2
-part-result-start-2 c = search needs
-
-part-result-end-2 : tie.Need-part-result-end-2
-part-result-end-2 c = search needs
-
-enum-told-2 : tie.Need-enum-told-2
-enum-told-2 c = search needs
-
-sub-result-3 : tie.Need-sub-result-3
-sub-result-3 c = search needs
-
-part-result-start-3 : tie.Need-part-result-start-3
-part-result-start-3 c = search needs
-
-part-result-end-3 : tie.Need-part-result-end-3
-part-result-end-3 c = search needs
 
 returns : tie.Need-returns
 returns c =
@@ -81,20 +45,20 @@ pub field-part-spec : {M : Type 1} → statement M
 field-part-spec =
     tie.close
     (tie.spec
-    field-requires
-    enum-known-found
+    (λ c κs. search needs)
+    (λ c. search needs)
     add-end
-    sub-result
-    part-result-start
+    (λ c. search needs)
+    (λ c. search needs)
     part-result-end
-    enum-told
-    sub-result-2
-    part-result-start-2
-    part-result-end-2
-    enum-told-2
-    sub-result-3
-    part-result-start-3
-    part-result-end-3
+    (λ c. search needs)
+    (λ c. search needs)
+    (λ c. search needs)
+    (λ c. search needs)
+    (λ c. search needs)
+    (λ c. search needs)
+    (λ c. search needs)
+    (λ c. search needs)
     returns
     returns-2
     returns-3)

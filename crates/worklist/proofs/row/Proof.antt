@@ -7,9 +7,6 @@ use borrow.Author.Needs.{needs}
 use Rattle.worklist.proofs.row.Statement.{statement}
 use Rattle.worklist.proofs.row.Tie as tie
 
-no-separator-requires : tie.Need-no-separator-requires
-no-separator-requires c κs = search needs
-
 returns : tie.Need-returns
 unfolding rowTold
 returns c = no-separator-told _ _ (c .before .no-separator .ensures) _ _ _ (c .if1 .taken)
@@ -22,24 +19,6 @@ cast-walk : tie.Need-cast-walk
 cast-walk c =
     let n = c .before .before in
     omega (arith, separator-byte (n .before .before .args .separator) (n .no-separator .result) (n .no-separator .ensures) (c .before .if1 .left))
-
-walk-requires : tie.Need-walk-requires
-walk-requires c κs = search needs
-
-enum-known-end : tie.Need-enum-known-end
-enum-known-end c = search needs
-
-behind-line-end-requires : tie.Need-behind-line-end-requires
-behind-line-end-requires c κs = search needs
-
-enum-known-place : tie.Need-enum-known-place
-enum-known-place c = search needs
-
-stop-from-requires : tie.Need-stop-from-requires
-stop-from-requires c κs = search needs
-
-behind-line-end-requires-2 : tie.Need-behind-line-end-requires-2
-behind-line-end-requires-2 c κs = search needs
 
 returns-3 : tie.Need-returns-3
 unfolding rowTold
@@ -55,21 +34,22 @@ returns-4 c =
     let w = c .before .before .before .before .before in
     let n = w .before .before .before in
     row-told _ _ (n .no-separator .ensures) _ _ _ (w .before .before .if1 .left) (w .before .if2 .left)
-    (malformed-told _ 0 _ (sym (w .walk .ensures) ∙ c .before .before .before .place .given .1) _ _ (c .before .stop-from .ensures) (c .behind-line-end2 .ensures))
+    (malformed-told _ 0 _ (sym (w .walk .ensures) ∙ c .before .before .before .place .given .1) _ _
+    (c .before .stop-from .ensures) (c .behind-line-end2 .ensures))
 
 pub row-spec : {M : Type 1} → statement M
 row-spec =
     tie.close
     (tie.spec
-    no-separator-requires
+    (λ c κs. search needs)
     returns
     returns-2
     cast-walk
-    walk-requires
-    enum-known-end
-    behind-line-end-requires
-    enum-known-place
-    stop-from-requires
-    behind-line-end-requires-2
+    (λ c κs. search needs)
+    (λ c. search needs)
+    (λ c κs. search needs)
+    (λ c. search needs)
+    (λ c κs. search needs)
+    (λ c κs. search needs)
     returns-3
     returns-4)

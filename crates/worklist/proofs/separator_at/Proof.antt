@@ -9,12 +9,9 @@ returns : tie.Need-returns
 unfolding separatorAt
 returns c = rw (le-ltb _ _ (c .if1 .taken))
 
-shared-slice-read-result : tie.Need-shared-slice-read-result
-shared-slice-read-result c = search needs
-
 returns-2 : tie.Need-returns-2
 unfolding separatorAt
 returns-2 c = rw (lt-ltb _ _ (c .before .if1 .left))
 
 pub separator-at-spec : {M : Type 1} → statement M
-separator-at-spec = tie.close (tie.spec returns shared-slice-read-result returns-2)
+separator-at-spec = tie.close (tie.spec returns (λ c. search needs) returns-2)

@@ -18,19 +18,10 @@ abbrev μ-loop : tie.MeasureT-loop
 loop-holds : tie.Need-loop-holds Inv-loop μ-loop
 loop-holds c = walking-none _ _ _ _ (search needs)
 
-field-end-requires : tie.Need-field-end-requires Inv-loop μ-loop
-field-end-requires c κs = search needs
-
-enum-known-place : tie.Need-enum-known-place Inv-loop μ-loop
-enum-known-place c = search needs
-
 returns : tie.Need-returns Inv-loop μ-loop
 returns c =
     let f = c .before .before .before in
     walked-malformed (f .before .loop .inv) (sym (f .field-end .ensures) ∙ c .before .place .given .1)
-
-enum-known-end : tie.Need-enum-known-end Inv-loop μ-loop
-enum-known-end c = search needs
 
 sub-t13 : tie.Need-sub-t13 Inv-loop μ-loop
 sub-t13 c =
@@ -39,22 +30,17 @@ sub-t13 c =
     let a = f .before .before .before .args in
     field-forward (a .separator) (a .text .now) (f .before .loop .from) _ _ (sym (f .field-end .ensures) ∙ e .end .given .1)
 
-kept-requires : tie.Need-kept-requires Inv-loop μ-loop
-kept-requires c κs = search needs
-
 add-fields : tie.Need-add-fields Inv-loop μ-loop
 add-fields c =
     let i = c .before .before .before .before .before .loop .inv in
     omega (arith, i .few, i .inside)
 
-separator-at-requires : tie.Need-separator-at-requires Inv-loop μ-loop
-separator-at-requires c κs = search needs
-
 returns-2 : tie.Need-returns-2 Inv-loop μ-loop
 returns-2 c =
     let e = c .before .before .before .before in
     let f = e .before .before in
-    walked-whole (f .before .loop .inv) _ _ (sym (f .field-end .ensures) ∙ e .end .given .1) _ (c .before .before .kept .ensures) (sym (c .before .separator-at .ensures) ∙ not-true _ (c .if1 .taken))
+    walked-whole (f .before .loop .inv) _ _ (sym (f .field-end .ensures) ∙ e .end .given .1) _ (c .before .before .kept .ensures)
+    (sym (c .before .separator-at .ensures) ∙ not-true _ (c .if1 .taken))
 
 add-from : tie.Need-add-from Inv-loop μ-loop
 add-from c =
@@ -68,17 +54,21 @@ loop-less c =
     let e = c .before .before .before .before in
     let f = e .before .before in
     let a = f .before .before .before .args in
+    let end = e .end .given .0 .0 in
+    let is = sym (f .field-end .ensures) ∙ e .end .given .1 in
+    let s = sym (c .before .separator-at .ensures) ∙ not-false _ (c .if1 .left) in
     omega (
       arith,
-      separator-inside (a .separator) (a .text .now) (e .end .given .0 .0) (sym (c .before .separator-at .ensures) ∙ not-false _ (c .if1 .left)),
-      field-forward (a .separator) (a .text .now) (f .before .loop .from) (e .end .given .0 .0) (e .end .given .0 .1 .0) (sym (f .field-end .ensures) ∙ e .end .given .1),
+      separator-inside (a .separator) (a .text .now) end s,
+      field-forward (a .separator) (a .text .now) (f .before .loop .from) end (e .end .given .0 .1 .0) is,
     )
 
 loop-again : tie.Need-loop-again Inv-loop μ-loop
 loop-again c =
     let e = c .before .before .before .before in
     let f = e .before .before in
-    walking-on (f .before .loop .inv) _ _ (sym (f .field-end .ensures) ∙ e .end .given .1) _ (c .before .before .kept .ensures) (sym (c .before .separator-at .ensures) ∙ not-false _ (c .if1 .left))
+    walking-on (f .before .loop .inv) _ _ (sym (f .field-end .ensures) ∙ e .end .given .1) _ (c .before .before .kept .ensures)
+    (sym (c .before .separator-at .ensures) ∙ not-false _ (c .if1 .left))
 
 pub walk-spec : {M : Type 1} → statement M
 walk-spec =
@@ -87,14 +77,14 @@ walk-spec =
     Inv-loop
     μ-loop
     loop-holds
-    field-end-requires
-    enum-known-place
+    (λ c κs. search needs)
+    (λ c. search needs)
     returns
-    enum-known-end
+    (λ c. search needs)
     sub-t13
-    kept-requires
+    (λ c κs. search needs)
     add-fields
-    separator-at-requires
+    (λ c κs. search needs)
     returns-2
     add-from
     loop-less

@@ -6,12 +6,6 @@ use borrow.Author.Needs.{needs}
 use Rattle.worklist_joined.proofs.copy_fields.Statement.{statement}
 use Rattle.worklist_joined.proofs.copy_fields.Tie as tie
 
-row-requires : tie.Need-row-requires
-row-requires c κs = search needs
-
-enum-known-fields : tie.Need-enum-known-fields
-enum-known-fields c = search needs
-
 join-requires : tie.Need-join-requires
 unfolding rowTold
 join-requires c κs =
@@ -21,18 +15,6 @@ join-requires c κs =
     let a = r .before .before .before .args in
     let h = has-fields (a .separator) (a .text .now) (a .at) _ _ _ (sym (ap rowTold (f .fields .given .1)) ∙ r .row .ensures) in
     h
-
-enum-told : tie.Need-enum-told
-enum-told c = search needs
-
-enum-told-2 : tie.Need-enum-told-2
-enum-told-2 c = search needs
-
-enum-told-3 : tie.Need-enum-told-3
-enum-told-3 c = search needs
-
-same-length : tie.Need-same-length
-same-length c = search needs
 
 returns : tie.Need-returns
 unfolding rowTold
@@ -69,13 +51,13 @@ pub copy-fields-spec : {M : Type 1} → statement M
 copy-fields-spec =
     tie.close
     (tie.spec
-    row-requires
-    enum-known-fields
+    (λ c κs. search needs)
+    (λ c. search needs)
     join-requires
-    enum-told
-    enum-told-2
-    enum-told-3
-    same-length
+    (λ c. search needs)
+    (λ c. search needs)
+    (λ c. search needs)
+    (λ c. search needs)
     returns
     returns-2
     returns-3

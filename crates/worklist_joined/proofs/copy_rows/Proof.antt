@@ -16,9 +16,6 @@ Inv-loop text separator output₀ count₀ at₀ output count at = Copying separ
 abbrev μ-loop : tie.MeasureT-loop
 μ-loop text separator output₀ count₀ at₀ output count at = length text - at
 
-separates-requires : tie.Need-separates-requires Inv-loop μ-loop
-separates-requires c κs = search needs
-
 returns : tie.Need-returns Inv-loop μ-loop
 returns c = nothing-copied _ _ _ (c .before .separates .ensures ∙ c .if1 .taken)
 
@@ -35,12 +32,6 @@ sub-part c =
     let l = c .before .before .loop in
     let a = c .before .before .before .before .before .before .before .args in
     omega (arith, c .next-row .ensures, row-next (a .separator) (a .text .now) (l .at) (c .before .loop-test .taken) .0)
-
-part-requires : tie.Need-part-requires Inv-loop μ-loop
-part-requires c κs = search needs
-
-copy-requires : tie.Need-copy-requires Inv-loop μ-loop
-copy-requires c κs = search needs
 
 add-count : tie.Need-add-count Inv-loop μ-loop
 add-count c =
@@ -59,7 +50,8 @@ loop-again : tie.Need-loop-again Inv-loop μ-loop
 loop-again c =
     let n = c .before .before .before .before .before in
     let l = n .before .before .loop in
-    copying-on (l .inv) (n .before .loop-test .taken) _ (n .next-row .ensures) _ (c .before .before .copy .ensures ∙ ap (overlay (l .output) (l .at)) (c .before .before .before .before .part .ensures))
+    copying-on (l .inv) (n .before .loop-test .taken) _ (n .next-row .ensures) _
+    (c .before .before .copy .ensures ∙ ap (overlay (l .output) (l .at)) (c .before .before .before .before .part .ensures))
 
 same-length : tie.Need-same-length Inv-loop μ-loop
 same-length c = ap length (c .before .loop .inv .copied) ∙ overlay-length _ _ _
@@ -75,13 +67,13 @@ copy-rows-spec =
     (tie.spec
     Inv-loop
     μ-loop
-    separates-requires
+    (λ c κs. search needs)
     returns
     loop-holds
     next-row-requires
     sub-part
-    part-requires
-    copy-requires
+    (λ c κs. search needs)
+    (λ c κs. search needs)
     add-count
     loop-less
     loop-again

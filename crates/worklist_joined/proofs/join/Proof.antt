@@ -4,10 +4,10 @@ use Prim.Native.Nat.{_-_}
 use native.Mathlib.Omega.{arith}
 use lib.ListN.{length}
 use Rattle.parts.proofs.Laws.{overlay-length}
-use Rattle.worklist.specs.Rows.{rowAt, noSeparator}
+use Rattle.worklist.specs.Rows.{rowAt}
 use Rattle.worklist.proofs.Told.{separator-byte}
 use Rattle.worklist_joined.specs.Joined.{fieldsOf}
-use Rattle.worklist_joined.proofs.FieldLaws.{Joining, field-bytes, first-laid, all-laid, put-fits, put-on}
+use Rattle.worklist_joined.proofs.FieldLaws.{Joining, first-laid, all-laid, put-fits, put-on}
 use borrow.Author.Needs.{needs}
 use Rattle.worklist_joined.proofs.join.Statement.{statement}
 use Rattle.worklist_joined.proofs.join.Tie as tie
@@ -18,18 +18,12 @@ Inv-loop text at separator fields output₀ to₀ column₀ output to column = J
 abbrev μ-loop : tie.MeasureT-loop
 μ-loop text at separator fields output₀ to₀ column₀ output to column = fields - column
 
-field-part-requires : tie.Need-field-part-requires Inv-loop μ-loop
-field-part-requires c κs = search needs
-
-copy-requires : tie.Need-copy-requires Inv-loop μ-loop
-copy-requires c κs = search needs
-
 loop-holds : tie.Need-loop-holds Inv-loop μ-loop
 loop-holds c =
     let k = c in
     let f = k .before .before .before .before in
     let s = f .before .before .before in
-    first-laid (s .args .separator) (s .args .text .now) (fieldsOf (rowAt (s .args .separator) (s .args .text .now) (s .args .at))) (omega (arith, s .pre .some, s .pre .all)) _ (field-bytes (s .pre) 0 (s .pre .some) _ (f .field-part .ensures .0)) _ _ (k .before .before .copy .ensures)
+    first-laid (s .pre) _ (f .field-part .ensures .0) _ _ (k .before .before .copy .ensures)
 
 put-requires : tie.Need-put-requires Inv-loop μ-loop
 put-requires c κs =
@@ -65,8 +59,8 @@ returns c =
     let k = c .before .before in
     let f = k .before .before .before .before in
     let s = f .before .before .before in
-    all-laid (s .args .separator) (s .args .text .now) (fieldsOf (rowAt (s .args .separator) (s .args .text .now) (s .args .at))) (omega (arith, s .pre .some, s .pre .all)) _ (field-bytes (s .pre) 0 (s .pre .some) _ (f .field-part .ensures .0)) _ _ (k .before .before .copy .ensures)
-    (c .before .loop .inv) (omega (arith, s .pre .all, c .loop-test .left))
+    all-laid (s .pre) _ (f .field-part .ensures .0) _ _ (k .before .before .copy .ensures)
+    (c .before .loop .inv) (c .loop-test .left)
 
 pub join-spec : {M : Type 1} → statement M
 join-spec =
@@ -74,8 +68,8 @@ join-spec =
     (tie.spec
     Inv-loop
     μ-loop
-    field-part-requires
-    copy-requires
+    (λ c κs. search needs)
+    (λ c κs. search needs)
     loop-holds
     put-requires
     add-column

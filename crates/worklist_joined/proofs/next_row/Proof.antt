@@ -6,58 +6,47 @@ use borrow.Author.Needs.{needs}
 use Rattle.worklist_joined.proofs.next_row.Statement.{statement}
 use Rattle.worklist_joined.proofs.next_row.Tie as tie
 
-row-requires : tie.Need-row-requires
-row-requires c κs = search needs
-
-enum-known-next : tie.Need-enum-known-next
-enum-known-next c = search needs
-
-enum-known-next-2 : tie.Need-enum-known-next-2
-enum-known-next-2 c = search needs
-
-enum-told : tie.Need-enum-told
-enum-told c = search needs
-
-enum-told-2 : tie.Need-enum-told-2
-enum-told-2 c = search needs
-
 returns : tie.Need-returns
 unfolding lengthOf rowTold
 returns c =
     let w = c .before .before .before in
     let s = w .before .before in
-    next-known (s .args .text .now) (s .args .at) (s .args .separator) (s .pre .0) (s .pre .1) (w .row .result) (w .row .ensures) _ (ap (λ r. lengthOf (rowTold r)) (c .before .next .given .1))
+    next-known (s .args .text .now) (s .args .at) (s .args .separator) (s .pre .0) (s .pre .1) (w .row .result) (w .row .ensures) _
+    (ap (λ r. lengthOf (rowTold r)) (c .before .next .given .1))
 
 returns-2 : tie.Need-returns-2
 unfolding lengthOf rowTold
 returns-2 c =
     let w = c .before .before .before in
     let s = w .before .before in
-    next-known (s .args .text .now) (s .args .at) (s .args .separator) (s .pre .0) (s .pre .1) (w .row .result) (w .row .ensures) _ (ap (λ r. lengthOf (rowTold r)) (c .before .next2 .given .1))
+    next-known (s .args .text .now) (s .args .at) (s .args .separator) (s .pre .0) (s .pre .1) (w .row .result) (w .row .ensures) _
+    (ap (λ r. lengthOf (rowTold r)) (c .before .next2 .given .1))
 
 returns-3 : tie.Need-returns-3
 unfolding lengthOf rowTold
 returns-3 c =
     let w = c .before .before in
     let s = w .before .before in
-    next-known (s .args .text .now) (s .args .at) (s .args .separator) (s .pre .0) (s .pre .1) (w .row .result) (w .row .ensures) _ (ap (λ r. lengthOf (rowTold r)) (c .enum-told .given .1))
+    next-known (s .args .text .now) (s .args .at) (s .args .separator) (s .pre .0) (s .pre .1) (w .row .result) (w .row .ensures) _
+    (ap (λ r. lengthOf (rowTold r)) (c .enum-told .given .1))
 
 returns-4 : tie.Need-returns-4
 unfolding lengthOf rowTold
 returns-4 c =
     let w = c .before .before in
     let s = w .before .before in
-    next-known (s .args .text .now) (s .args .at) (s .args .separator) (s .pre .0) (s .pre .1) (w .row .result) (w .row .ensures) _ (ap (λ r. lengthOf (rowTold r)) (c .enum-told2 .given .1))
+    next-known (s .args .text .now) (s .args .at) (s .args .separator) (s .pre .0) (s .pre .1) (w .row .result) (w .row .ensures) _
+    (ap (λ r. lengthOf (rowTold r)) (c .enum-told2 .given .1))
 
 pub next-row-spec : {M : Type 1} → statement M
 next-row-spec =
     tie.close
     (tie.spec
-    row-requires
-    enum-known-next
-    enum-known-next-2
-    enum-told
-    enum-told-2
+    (λ c κs. search needs)
+    (λ c. search needs)
+    (λ c. search needs)
+    (λ c. search needs)
+    (λ c. search needs)
     returns
     returns-2
     returns-3

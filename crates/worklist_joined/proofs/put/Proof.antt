@@ -8,36 +8,12 @@ use borrow.Author.Needs.{needs}
 use Rattle.worklist_joined.proofs.put.Statement.{statement}
 use Rattle.worklist_joined.proofs.put.Tie as tie
 
-cast-t9 : tie.Need-cast-t9
-cast-t9 c = search needs
-
-slice-aggregate-copy : tie.Need-slice-aggregate-copy
-slice-aggregate-copy c = search needs
-
-copy-requires : tie.Need-copy-requires
-copy-requires c κs = search needs
-
-field-part-requires : tie.Need-field-part-requires
-field-part-requires c κs = search needs
-
-add-copy : tie.Need-add-copy
-add-copy c = search needs
-
-copy-requires-2 : tie.Need-copy-requires-2
-copy-requires-2 c κs = search needs
-
-add-result : tie.Need-add-result
-add-result c = search needs
-
 add-result-2 : tie.Need-add-result-2
 add-result-2 c =
     let f = c .before .before .before .before in
     let k = f .before .before .before in
     let s = k .before .before .before .before .before in
     omega (arith, s .pre .1, ap length (f .field-part .ensures .0))
-
-same-length : tie.Need-same-length
-same-length c = search needs
 
 returns : tie.Need-returns
 returns c =
@@ -52,13 +28,13 @@ pub put-spec : {M : Type 1} → statement M
 put-spec =
     tie.close
     (tie.spec
-    cast-t9
-    slice-aggregate-copy
-    copy-requires
-    field-part-requires
-    add-copy
-    copy-requires-2
-    add-result
+    (λ c. search needs)
+    (λ c. search needs)
+    (λ c κs. search needs)
+    (λ c κs. search needs)
+    (λ c. search needs)
+    (λ c κs. search needs)
+    (λ c. search needs)
     add-result-2
-    same-length
+    (λ c. search needs)
     returns)

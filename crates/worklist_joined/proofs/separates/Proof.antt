@@ -6,21 +6,6 @@ use borrow.Author.Needs.{needs}
 use Rattle.worklist_joined.proofs.separates.Statement.{statement}
 use Rattle.worklist_joined.proofs.separates.Tie as tie
 
-row-requires : tie.Need-row-requires
-row-requires c κs = search needs
-
-enum-told : tie.Need-enum-told
-enum-told c = search needs
-
-enum-told-2 : tie.Need-enum-told-2
-enum-told-2 c = search needs
-
-enum-told-3 : tie.Need-enum-told-3
-enum-told-3 c = search needs
-
-enum-told-4 : tie.Need-enum-told-4
-enum-told-4 c = search needs
-
 returns : tie.Need-returns
 unfolding isRefusal rowTold
 returns c =
@@ -53,11 +38,11 @@ pub separates-spec : {M : Type 1} → statement M
 separates-spec =
     tie.close
     (tie.spec
-    row-requires
-    enum-told
-    enum-told-2
-    enum-told-3
-    enum-told-4
+    (λ c κs. search needs)
+    (λ c. search needs)
+    (λ c. search needs)
+    (λ c. search needs)
+    (λ c. search needs)
     returns
     returns-2
     returns-3
