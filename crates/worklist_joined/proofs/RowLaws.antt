@@ -153,7 +153,8 @@ module _ (sep : ℕ) (t : List ℕ) where
           → line .next - at ≡ (line .end - at) + (line .next - line .end)
           → at + (line .end - at) ≡ line .end → lineBytes t line ≡ partAt t (line .at) (line .end - line .at) ++ e
       at-here at line is {e} b size place =
-          rw (is, size, part-add t at (line .end - at) (line .next - line .end), place, b)
+          ap₂ (partAt t) is (ap (λ n. line .next - n) is ∙ size) ∙ part-add t at (line .end - at) (line .next - line .end)
+          ∙ ap₂ _++_ (ap (λ n. partAt t n (line .end - n)) (sym is)) (ap (λ n. partAt t n (line .next - line .end)) place ∙ b)
 
   row-first : (at : ℕ) → lineBytes t (lineAt sep t at) ≡ partAt t at (lineAt sep t at .next - at)
   unfolding lineAt
