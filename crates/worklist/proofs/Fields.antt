@@ -2,14 +2,13 @@
 use mathlib.Core.Path.{_≡_, refl, sym, ap, ap₂, _∙_, subst}
 use mathlib.Core.Bool.{Bool, true, false, cond}
 use mathlib.Core.List.{List, [], _∷_}
-use Prim.Native.Nat.{ℕ, zero, suc, _+_, _-_, _≤_, _<_}
+use Prim.Native.Nat.{ℕ, zero, suc, _+_, _-_, _≤_}
 use native.Mathlib.Nat.{add-sub-cancel-left}
 use native.Mathlib.Omega.{arith}
 use borrow.Author.Tests.{ltb-true}
-use lib.Dec.{ltb}
 use lib.ListN.{length, take, drop}
 use Rattle.refusal.specs.Check.{Check, silent, refused}
-use Rattle.refusal.specs.Outcome.{Outcome, answered, absent, refusal, after}
+use Rattle.refusal.specs.Outcome.{Outcome, answered, absent, after}
 use Rattle.parts.proofs.Laws.{by-test}
 use Rattle.worklist.specs.declared.FieldEnd.{FieldEnd}
 use Rattle.worklist.specs.declared.FieldEnd.the-variants as field

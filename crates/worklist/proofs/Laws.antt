@@ -1,21 +1,17 @@
 -- Laws of separated text, byte by byte and field by field.
-use mathlib.Core.Path.{_≡_, refl, sym, ap, _∙_}
-use mathlib.Core.Bool.{Bool, true, false, not, cond, _||_, _&&_, false≢true}
-use mathlib.Core.List.{List, [], _∷_}
-use mathlib.Core.Logic.{_⊎_, ⊎-elim}
-use Prim.Native.Nat.{ℕ, zero, suc, _+_, _-_, _≤_, _<_}
+use mathlib.Core.Path.{_≡_, sym, ap, _∙_}
+use mathlib.Core.Bool.{Bool, true, false, not, false≢true}
+use mathlib.Core.List.{List, _∷_}
+use Prim.Native.Nat.{ℕ, _+_, _-_, _≤_, _<_}
 use native.Mathlib.Numerals.{add-one}
 use native.Mathlib.Omega.{arith}
 use native.Mathlib.Decide.{decLt}
-use borrow.Author.Tests.{lt-ltb, le-ltb, le-leb, lt-leb, eq-eqb, ne-eqb}
-use lib.Dec.{eqb}
+use borrow.Author.Tests.{eq-eqb, ne-eqb}
 use lib.ListN.{length, drop, drop-of-length-le, List·getD-eq-default}
 use lib.Seq.{drop-cons}
 use Rattle.parts.specs.Part.{byteAt}
-use Rattle.parts.proofs.Laws.{by-test}
 use Rattle.worklist.specs.declared.Closing.{Closing}
 use Rattle.worklist.specs.declared.Closing.the-variants.{Behind, Never}
-use Rattle.worklist.specs.declared.FieldEnd.{FieldEnd}
 use Rattle.worklist.specs.declared.FieldEnd.the-variants as field
 use Rattle.worklist.specs.Rows.{quote, stops, stopFrom, stopAt, closingFrom, closingAt, endsField, quotedField, fieldAt}
 

@@ -1,14 +1,14 @@
 -- Laws of the rows of separated text: where a field ends, the row one field on, and what holds of each field.
 use mathlib.Core.Path.{_≡_, refl, sym, ap, ap₂, _∙_}
-use mathlib.Core.Bool.{Bool, true, false, cond, _||_, _&&_, false≢true}
+use mathlib.Core.Bool.{Bool, true, false}
 use mathlib.Core.List.{List, [], _∷_, _++_}
 use mathlib.Core.Logic.{_⊎_, inl, inr, ⊎-elim}
 use Prim.Native.Nat.{ℕ, zero, suc, _+_, _-_, _≤_, _<_}
-use native.Mathlib.Nat.{not-suc-le-zero, le-of-suc-le-suc}
+use native.Mathlib.Nat.{not-suc-le-zero}
 use native.Mathlib.Numerals.{add-one}
 use native.Mathlib.Omega.{arith}
-use borrow.Author.Tests.{ltb-true, lt-ltb, le-ltb, eqb-true, eqb-false}
-use lib.Dec.{ltb, leb, eqb, eqb·zero-suc, eqb·suc-zero, eqb·suc-suc}
+use borrow.Author.Tests.{ltb-true, eqb-true, eqb-false}
+use lib.Dec.{ltb, eqb, eqb·zero-suc, eqb·suc-zero, eqb·suc-suc}
 use lib.ListN.{length, drop, length-drop, length-append}
 use Rattle.parts.specs.Part.{byteAt}
 use Rattle.parts.proofs.Laws.{by-test, both}
@@ -17,7 +17,6 @@ use Rattle.worklist.specs.declared.Closing.the-variants.{Behind, Never}
 use Rattle.worklist.specs.declared.FieldEnd.{FieldEnd}
 use Rattle.worklist.specs.declared.FieldEnd.the-variants as field
 use Rattle.worklist.specs.declared.Span.{Span}
-use Rattle.worklist.specs.declared.Walked.{Walked}
 use Rattle.worklist.specs.declared.Walked.the-variants as walked
 use Rattle.worklist.proofs.Laws.{there}
 use Rattle.worklist.specs.Rows.{quote, stops, stopFrom, stopAt, closingFrom, closingAt, endsField, quotedField, fieldAt}

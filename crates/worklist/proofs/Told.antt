@@ -1,21 +1,19 @@
 -- Laws of what is told of a row and of a field.
-use mathlib.Core.Path.{_≡_, refl, sym, ap, ap₂, _∙_}
+use mathlib.Core.Path.{_≡_, refl, sym, ap, _∙_}
 use mathlib.Core.Bool.{Bool, true, false, cond, _||_}
 use mathlib.Core.List.{List, [], _∷_}
-use Prim.Native.Nat.{ℕ, zero, suc, _+_, _≤_, _<_}
+use Prim.Native.Nat.{ℕ, zero, suc, _≤_, _<_}
 use native.Mathlib.Nat.{not-suc-le-zero, le-of-suc-le-suc}
 use native.Mathlib.Omega.{arith}
 use borrow.Author.Tests.{lt-ltb, le-ltb, ltb-false}
-use lib.Dec.{ltb, eqb}
+use lib.Dec.{ltb}
 use lib.ListN.{length}
-use Rattle.refusal.specs.Check.{silent}
 use Rattle.refusal.specs.Number.{settings}
 use Rattle.refusal.specs.Outcome.{Outcome, answered, absent, refusal}
 use Rattle.refusal.proofs.Laws.{said, quiet, after-said, after-quiet}
 use Rattle.worklist.specs.declared.Span.{Span}
-use Rattle.worklist.specs.declared.Walked.{Walked}
 use Rattle.worklist.specs.declared.Walked.the-variants as walked
-use Rattle.worklist.specs.Rows.{lf, noSeparator, separatorCheck, behindLineEnd, stopAt, Row, whole, malformed, rowEnd, rowKind, rowValues}
+use Rattle.worklist.specs.Rows.{lf, noSeparator, behindLineEnd, stopAt, Row, whole, malformed, rowEnd, rowKind, rowValues}
 use Rattle.worklist.specs.Rows.{ofRow, spanValues, columnOf, fieldIn, spanIn, walkedOf}
 
 -- ---- the separator, and whether a row begins

@@ -1,15 +1,15 @@
 -- Where a row of separated text ends: at a line end, or at the text's end.
 use mathlib.Core.Path.{_≡_, refl, sym, ap, _∙_, subst}
-use mathlib.Core.Bool.{Bool, true, false, cond, _||_, _&&_, false≢true}
-use mathlib.Core.List.{List, [], _∷_, _++_}
+use mathlib.Core.Bool.{Bool, true, false, _||_, false≢true}
+use mathlib.Core.List.{List, [], _∷_}
 use mathlib.Core.Logic.{_⊎_, inl, inr, ⊎-elim}
-use Prim.Native.Nat.{ℕ, zero, suc, _+_, _-_, _≤_, _<_}
+use Prim.Native.Nat.{ℕ, zero, suc, _+_, _-_, _≤_}
 use native.Mathlib.Omega.{arith}
-use borrow.Author.Tests.{lt-ltb, ltb-false, leb-true, eqb-true, eqb-false, eq-eqb, ne-eqb}
+use borrow.Author.Tests.{ltb-false, leb-true, eqb-true}
 use lib.Dec.{ltb, leb, eqb}
 use lib.ListN.{length, drop, length-drop}
 use lib.Seq.{getD-drop}
-use Rattle.parts.specs.Part.{byteAt, partAt}
+use Rattle.parts.specs.Part.{byteAt}
 use Rattle.parts.proofs.Laws.{by-test}
 use Rattle.worklist.specs.declared.Closing.{Closing}
 use Rattle.worklist.specs.declared.Closing.the-variants.{Behind, Never}
@@ -18,8 +18,8 @@ use Rattle.worklist.specs.declared.FieldEnd.the-variants as field
 use Rattle.worklist.specs.declared.Span.{Span}
 use Rattle.worklist.specs.Rows.{quote, cr, lf, stops, stopFrom, stopAt, closingAt, endsField, quotedField, fieldAt, separatorAt, spanOf}
 use Rattle.worklist.specs.Rows.{Row, whole, malformed, inFront, rowStep, rowBy, rowAt, rowEnd}
-use Rattle.worklist.proofs.Laws.{there, behind}
-use Rattle.worklist.proofs.Rows.{stop-range, closing-range, Plain, Quoted, field-cases, field-forward, field-inside, separator-inside}
+use Rattle.worklist.proofs.Laws.{there}
+use Rattle.worklist.proofs.Rows.{stop-range, closing-range, field-cases, field-forward, field-inside, separator-inside}
 use Rattle.worklist.proofs.Fields.{Fields, last, more, fields-of}
 
 -- ---- the end of a line

@@ -1,10 +1,9 @@
 -- The fields of a row, joined by the separator, are the row: rule D10.
 use mathlib.Core.Path.{_≡_, refl, sym, ap, ap₂, _∙_, subst}
-use mathlib.Core.Bool.{Bool, true, false, cond, _&&_, false≢true}
+use mathlib.Core.Bool.{Bool, true, false, false≢true}
 use mathlib.Core.List.{List, [], _∷_, _++_, append-assoc, append-nil}
 use Prim.Native.Nat.{ℕ, zero, suc, _+_, _-_, _≤_, _<_}
 use native.Mathlib.Nat.{not-suc-le-zero, le-of-suc-le-suc}
-use native.Mathlib.Numerals.{add-one}
 use native.Mathlib.Omega.{arith}
 use borrow.Author.Tests.{lt-ltb, ltb-true, ltb-false, eqb-true}
 use lib.Dec.{ltb, eqb}
@@ -14,13 +13,13 @@ use Rattle.parts.specs.Part.{byteAt, partAt, overlay}
 use Rattle.parts.proofs.Laws.{by-test, both, overlay-after, partAt-length}
 use Rattle.parts.proofs.Parts.{part-add}
 use Rattle.worklist.specs.declared.Span.{Span}
-use Rattle.worklist.specs.Rows.{noSeparator, separatorAt, spanOf, Row, whole, malformed, rowAt, rowEnd, rowKind, rowValues, ofRow, rowOutcome}
+use Rattle.worklist.specs.Rows.{noSeparator, separatorAt, Row, whole, malformed, rowAt, rowEnd, rowKind, rowValues, rowOutcome}
 use Rattle.worklist.specs.Rows.{spanValues, columnOf, fieldIn, fieldOutcome, placeOf, lengthOf, fieldPart, spanIn}
 use Rattle.worklist.proofs.Laws.{behind}
 use Rattle.worklist.proofs.Rows.{field-forward, separator-inside}
 use Rattle.worklist.proofs.Fields.{Fields, last, more, fields-of}
 use Rattle.worklist.proofs.Told.{no-separator-told, no-row-told, row-told, column-here}
-use Rattle.worklist_joined.proofs.Ends.{Ends, fields-end}
+use Rattle.worklist_joined.proofs.Ends.{fields-end}
 use Rattle.worklist_joined.specs.Joined.{fieldBytes, behindSeparators, joinedFields, FieldsJoined, fieldOf, fieldsOf, joinedRow, laidField, laidRow}
 use Rattle.worklist_joined.specs.Joined.{copiedFields, HasFields}
 

@@ -1,10 +1,10 @@
 -- What a field holds: rule D11.
 use mathlib.Core.Path.{_≡_, refl, sym, ap, ap₂, _∙_, subst}
-use mathlib.Core.Bool.{Bool, true, false, cond, false≢true}
+use mathlib.Core.Bool.{Bool, true, false, false≢true}
 use mathlib.Core.List.{List, [], _∷_, _++_}
 use mathlib.Core.Logic.{⊎-elim}
 use Prim.Native.Nat.{ℕ, zero, suc, _+_, _-_, _≤_, _<_}
-use native.Mathlib.Nat.{not-suc-le-zero, le-of-suc-le-suc}
+use native.Mathlib.Nat.{le-of-suc-le-suc}
 use native.Mathlib.Omega.{arith}
 use borrow.Author.Tests.{eqb-true}
 use lib.Dec.{eqb}
@@ -12,14 +12,14 @@ use lib.ListN.{length, take, drop}
 use lib.Seq.{getD-drop}
 use Rattle.parts.specs.Part.{byteAt, partAt}
 use Rattle.parts.proofs.Laws.{by-test}
-use Rattle.worklist.specs.declared.Closing.the-variants.{Behind, Never}
+use Rattle.worklist.specs.declared.Closing.the-variants.{Behind}
 use Rattle.worklist.specs.declared.FieldEnd.the-variants as field
 use Rattle.worklist.specs.declared.Span.{Span}
-use Rattle.worklist.specs.Rows.{quote, stops, stopFrom, closingFrom, fieldAt, spanOf, spanIn, whole, rowAt}
+use Rattle.worklist.specs.Rows.{quote, stops, stopFrom, closingFrom, fieldAt, spanOf, spanIn}
 use Rattle.worklist.proofs.Laws.{there, behind}
-use Rattle.worklist.proofs.Rows.{stop-range, closing-range, Plain, Quoted, field-cases}
+use Rattle.worklist.proofs.Rows.{closing-range, Quoted, field-cases}
 use Rattle.worklist.proofs.Fields.{Fields, last, more, fields-of}
-use Rattle.worklist_joined.specs.Joined.{doubled, InQuotes, Holds, FieldsHold, fieldBytes}
+use Rattle.worklist_joined.specs.Joined.{doubled, InQuotes, Holds, FieldsHold}
 
 -- ---- a plain field
 

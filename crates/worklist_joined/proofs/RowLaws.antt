@@ -1,6 +1,6 @@
 -- The rows of separated text, each with its line end, joined, are the text: rule D9.
 use mathlib.Core.Path.{_≡_, refl, sym, ap, ap₂, _∙_, subst}
-use mathlib.Core.Bool.{Bool, true, false, not, cond, _||_, false≢true}
+use mathlib.Core.Bool.{Bool, true, false, false≢true}
 use mathlib.Core.List.{List, [], _∷_, _++_}
 use mathlib.Core.Logic.{⊎-elim}
 use Prim.Native.Nat.{ℕ, zero, suc, _+_, _-_, _≤_, _<_}
@@ -9,15 +9,13 @@ use borrow.Author.Tests.{lt-ltb, le-ltb, ltb-true, ltb-false, eqb-true, eqb-fals
 use lib.Dec.{ltb, eqb}
 use lib.ListN.{length, take, drop, length-take, drop-of-length-le, take-append-drop}
 use lib.Seq.{drop-drop, take-add, take-all}
-use Rattle.refusal.specs.declared.Refusal.{Refusal}
-use Rattle.refusal.specs.Number.{settings}
 use Rattle.refusal.specs.Outcome.{Outcome, answered, absent, refusal}
 use Rattle.parts.specs.Part.{byteAt, partAt, overlay}
 use Rattle.parts.proofs.Laws.{by-test, overlay-none, overlay-after}
 use Rattle.parts.proofs.Parts.{part-add}
 use Rattle.worklist.specs.declared.RowAnswer.{RowAnswer}
 use Rattle.worklist.specs.declared.RowAnswer.the-variants as answer
-use Rattle.worklist.specs.Rows.{cr, lf, noSeparator, behindLineEnd, stops, Row, whole, malformed, rowAt, rowEnd, rowValues, rowOutcome, lengthOf, rowTold}
+use Rattle.worklist.specs.Rows.{cr, lf, noSeparator, behindLineEnd, stops, Row, rowAt, rowEnd, rowValues, rowOutcome, lengthOf, rowTold}
 use Rattle.worklist.proofs.Laws.{there, behind}
 use Rattle.worklist.proofs.Told.{no-separator-told, no-row-told, row-told}
 use Rattle.worklist_joined.proofs.Ends.{EndsLine, Ends, row-ends}

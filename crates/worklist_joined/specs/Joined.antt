@@ -1,6 +1,6 @@
 -- The rows of separated text joined (rule D9), the fields of a row joined by the separator (rule D10), and what a field holds (rule D11).
 use mathlib.Core.Path.{_≡_}
-use mathlib.Core.Bool.{Bool, true, false, cond}
+use mathlib.Core.Bool.{true, false, cond}
 use mathlib.Core.List.{List, [], _∷_, _++_}
 use Prim.Native.Nat.{ℕ, zero, suc, _+_, _-_, _<_}
 use lib.Dec.{ltb, eqb}
