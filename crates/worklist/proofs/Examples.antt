@@ -39,6 +39,7 @@ pub record Examples : Type 0 where
   pub row-behind : rowOutcome unclosed 5 comma ≡ answered (6 ∷ 6 ∷ 1 ∷ 0 ∷ 0 ∷ [])
   pub two-fields : rowOutcome doubled-quote 0 comma ≡ answered (7 ∷ 8 ∷ 2 ∷ 0 ∷ 0 ∷ [])
   pub empty-field : fieldOutcome doubled-quote 0 comma 1 ≡ answered (7 ∷ 0 ∷ 0 ∷ [])
+  pub empty-row : rowOutcome (13 ∷ 10 ∷ []) 0 comma ≡ answered (0 ∷ 2 ∷ 1 ∷ 0 ∷ 0 ∷ [])
   pub no-separator : rowOutcome two-rows 20 34 ≡ refusal 11 0
 
 pub examples : Examples
@@ -55,5 +56,6 @@ examples = record {
   row-behind = refl;
   two-fields = refl;
   empty-field = refl;
+  empty-row = refl;
   no-separator = refl;
 }

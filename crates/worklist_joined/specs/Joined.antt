@@ -17,16 +17,16 @@ pub record Line : Type 0 where
   pub end : ℕ
   pub next : ℕ
 
-unfoldable pub lineAt : ℕ → List ℕ → ℕ → Line
+unfoldable pub lineAt : (sep : ℕ) → List ℕ → (at : ℕ) → Line
 lineAt sep t at =
     record { at = at; end = rowEnd t (rowAt sep t at); next = behindLineEnd t (rowEnd t (rowAt sep t at)) }
 
-unfoldable pub rowsBy : ℕ → ℕ → List ℕ → ℕ → List Line
+unfoldable pub rowsBy : (turns sep : ℕ) → List ℕ → (at : ℕ) → List Line
 rowsBy zero sep t at = []
 rowsBy (suc turns) sep t at = cond (ltb at (length t)) (lineAt sep t at ∷ rowsBy turns sep t (lineAt sep t at .next)) []
 
 -- The rows from byte 0 on. Each row has a byte or its line end has, so that as many turns as there are bytes are enough.
-abbrev pub rowsOf : ℕ → List ℕ → List Line
+abbrev pub rowsOf : (sep : ℕ) → List ℕ → List Line
 rowsOf sep t = rowsBy (length t) sep t 0
 
 -- A row with its line end.
@@ -56,10 +56,10 @@ pub record RowsJoined (sep : ℕ) (t : List ℕ) : Type 0 where
   pub each : (at : ℕ) → at < length t → RowWithEnd t (lineAt sep t at)
 
 -- What copy_rows tells and leaves: nothing where the separator is none (rule D1).
-abbrev pub rowCount : ℕ → List ℕ → ℕ
+abbrev pub rowCount : (sep : ℕ) → List ℕ → ℕ
 rowCount sep t = cond (noSeparator sep) 0 (length (rowsOf sep t))
 
-abbrev pub copiedRows : ℕ → List ℕ → List ℕ → List ℕ
+abbrev pub copiedRows : (sep : ℕ) (t out : List ℕ) → List ℕ
 copiedRows sep t out = cond (noSeparator sep) out (overlay out 0 t)
 
 -- ---- fields
@@ -68,41 +68,41 @@ abbrev pub fieldBytes : List ℕ → Span → List ℕ
 fieldBytes t f = partAt t (f .at) (f .length)
 
 -- Fields, each behind a separator.
-unfoldable pub behindSeparators : ℕ → List ℕ → List Span → List ℕ
+unfoldable pub behindSeparators : (sep : ℕ) → List ℕ → List Span → List ℕ
 behindSeparators sep t [] = []
 behindSeparators sep t (f ∷ fields) = sep ∷ (fieldBytes t f ++ behindSeparators sep t fields)
 
 -- Fields joined by the separator.
-unfoldable pub joinedFields : ℕ → List ℕ → List Span → List ℕ
+unfoldable pub joinedFields : (sep : ℕ) → List ℕ → List Span → List ℕ
 joinedFields sep t [] = []
 joinedFields sep t (f ∷ fields) = fieldBytes t f ++ behindSeparators sep t fields
 
 -- The fields of a row that is not malformed, joined by the separator, are the row (rule D10).
-abbrev pub FieldsJoined : ℕ → List ℕ → Type 0
+abbrev pub FieldsJoined : (sep : ℕ) → List ℕ → Type 0
 FieldsJoined sep t =
     (at : ℕ) → at < length t → (fields : List Span) (end : ℕ) → rowAt sep t at ≡ whole fields end → joinedFields sep t fields ≡ partAt t at (end - at)
 
 -- The field of a column, as it is handed out (rule D7).
-abbrev pub fieldOf : ℕ → List ℕ → ℕ → ℕ → List ℕ
+abbrev pub fieldOf : (sep : ℕ) → List ℕ → (at column : ℕ) → List ℕ
 fieldOf sep t at column = fieldPart t (fieldOutcome t at sep column)
 
 unfoldable pub fieldsOf : Row → List Span
 fieldsOf (whole fields end) = fields
 fieldsOf (malformed place) = []
 
-abbrev pub joinedRow : ℕ → List ℕ → ℕ → List ℕ
+abbrev pub joinedRow : (sep : ℕ) → List ℕ → (at : ℕ) → List ℕ
 joinedRow sep t at = joinedFields sep t (fieldsOf (rowAt sep t at))
 
 -- A separator at a place of the output, and a field behind it.
-abbrev pub laidField : ℕ → List ℕ → ℕ → ℕ → List ℕ → ℕ → List ℕ
+abbrev pub laidField : (sep : ℕ) → List ℕ → (at column : ℕ) → List ℕ → (to : ℕ) → List ℕ
 laidField sep t at column out to = overlay (overlay out to (sep ∷ [])) (to + 1) (fieldOf sep t at column)
 
 -- What copy_fields leaves: the row's bytes from the output's start on; no byte changes where there is no row, or where it is malformed.
-unfoldable pub laidRow : List ℕ → ℕ → Row → List ℕ → List ℕ
+unfoldable pub laidRow : List ℕ → (at : ℕ) → Row → List ℕ → List ℕ
 laidRow t at (whole fields end) out = overlay out 0 (partAt t at (end - at))
 laidRow t at (malformed place) out = out
 
-abbrev pub copiedFields : ℕ → List ℕ → ℕ → List ℕ → List ℕ
+abbrev pub copiedFields : (sep : ℕ) → List ℕ → (at : ℕ) → List ℕ → List ℕ
 copiedFields sep t at out = cond (noSeparator sep) out (cond (ltb at (length t)) (laidRow t at (rowAt sep t at) out) out)
 
 -- A row that is not malformed begins there and has so many fields.
@@ -129,7 +129,7 @@ pub record Holds (sep : ℕ) (t : List ℕ) (f : Span) : Type 0 where
   pub plain : f .quoted ≡ false → (i : ℕ) → i < f .length → stops sep (byteAt t (f .at + i)) ≡ false
   pub in-quotes : f .quoted ≡ true → InQuotes (fieldBytes t f)
 
-abbrev pub FieldsHold : ℕ → List ℕ → Type 0
+abbrev pub FieldsHold : (sep : ℕ) → List ℕ → Type 0
 FieldsHold sep t =
     (at : ℕ) → at < length t → (fields : List Span) (end : ℕ) → rowAt sep t at ≡ whole fields end
     → (column : ℕ) → column < length fields → Holds sep t (spanIn fields column)
