@@ -55,7 +55,8 @@ module _ (out : List ℕ) where
   zeros-length : (n : ℕ) → length (partsFrom blank 0 n) ≡ 20 * n
   zeros-length n = parts-length blank 20 0 n (λ j a b. refl) ∙ omega arith
 
-  pub zeros-next : (i : ℕ) (old : List ℕ) → old ≡ overlay out 0 (partsFrom blank 0 i) → overlay old (20 * i) (blank i) ≡ overlay out 0 (partsFrom blank 0 (i + 1))
+  pub zeros-next : (i : ℕ) (old : List ℕ) → old ≡ overlay out 0 (partsFrom blank 0 i)
+      → overlay old (20 * i) (blank i) ≡ overlay out 0 (partsFrom blank 0 (i + 1))
   zeros-next i old e = part-laid blank i (blank i) out old 0 (20 * i) refl (omega (arith, zeros-length i)) e .1
 
   pub zeros-all : (n : ℕ) (new : List ℕ) → 20 * n ≤ length out → new ≡ overlay out 0 (partsFrom blank 0 n) → new ≡ partsFrom blank 0 n ++ drop (20 * n) out
@@ -195,22 +196,24 @@ module _ (ids out : List ℕ) (f : ℕ → List ℕ) (entry : List ℕ) (id : �
         ap (λ y. byteAt (f y) 0) (eqb-true x id t ∙ sym same) ∙ ap (λ e. byteAt e 0) (sym (h .each p less))
         ∙ partAt-byte out (p * 20) 20 0 (omega arith) ∙ ap (byteAt out) here
 
-    pub turned-found : (byteAt out (20 * p) ≡ 0 → ⊥) → Held ids out (λ x. turned entry id x (f x))
+    pub turned-found : 0 < byteAt out (20 * p) → Held ids out (λ x. turned entry id x (f x))
     unfolding turned
     turned-found found = record {
       each = λ j l. let x = idAt ids j in
           h .each j l
           ∙ sym (by-test (eqb x id)
-          (λ t. ap (λ u. cond (eqb x id && u) entry (f x)) (ne-eqb _ _ (λ e. found (sym (flag x t) ∙ e))) ∙ ap (λ u. cond u entry (f x)) (and-false (eqb x id)))
+          (λ t. ap (λ u. cond (eqb x id && u) entry (f x)) (ne-eqb (byteAt (f x) 0) 0 (λ e. omega (arith, flag x t)))
+          ∙ ap (λ u. cond u entry (f x)) (and-false (eqb x id)))
           (λ t. ap (λ u. cond (u && eqb (byteAt (f x) 0) 0) entry (f x)) t));
     }
 
-    pub turned-new : (new : List ℕ) → byteAt out (20 * p) ≡ 0 → Held ids new (λ x. cond (eqb x id) entry (f x)) → Held ids new (λ x. turned entry id x (f x))
+    pub turned-new : (new : List ℕ) → byteAt out (20 * p) ≤ 0 → Held ids new (λ x. cond (eqb x id) entry (f x))
+        → Held ids new (λ x. turned entry id x (f x))
     unfolding turned
     turned-new new none put = record {
       each = λ j l. let x = idAt ids j in
           put .each j l
           ∙ by-test (eqb x id)
-          (λ t. ap (λ u. cond u entry (f x)) t ∙ sym (ap₂ (λ u v. cond (u && v) entry (f x)) t (eq-eqb _ _ (flag x t ∙ none))))
+          (λ t. ap (λ u. cond u entry (f x)) t ∙ sym (ap₂ (λ u v. cond (u && v) entry (f x)) t (eq-eqb (byteAt (f x) 0) 0 (omega (arith, flag x t)))))
           (λ t. ap (λ u. cond u entry (f x)) t ∙ sym (ap (λ u. cond (u && eqb (byteAt (f x) 0) 0) entry (f x)) t));
     }

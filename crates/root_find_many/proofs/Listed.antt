@@ -54,8 +54,9 @@ module _ (ids : List ℕ) (e : firstFrom (fallCheck ids) 1 (idCount ids - 1) ≡
   next-not-below j h =
       let one : 1 + j ≡ suc j = omega arith in
       let before : suc j - 1 ≡ j = omega arith in
+      let quiet = subst (λ k. fallCheck ids k ≡ silent) one (from-each (fallCheck ids) 1 (idCount ids - 1) e j (omega arith)) in
       subst (λ k. idAt ids k ≤ idAt ids (suc j)) before
-      (ltb-false _ _ (silent-test _ list-falls (suc j) (subst (λ k. fallCheck ids k ≡ silent) one (from-each (fallCheck ids) 1 (idCount ids - 1) e j (omega arith)))))
+      (ltb-false _ _ (silent-test _ list-falls (suc j) quiet))
 
   rise-by : (i k : ℕ) → i + k < idCount ids → idAt ids i ≤ idAt ids (i + k)
   rise-by i zero h = rw add-zero (omega arith)

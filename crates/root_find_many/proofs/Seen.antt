@@ -51,7 +51,9 @@ or-cond false values a b = refl
 found-append : (want : Record → Bool) (a b : List Record) → foundIn want (a ++ b) ≡ orElse (foundIn want a) (foundIn want b)
 unfolding foundIn orElse
 found-append want [] b = refl
-found-append want (r ∷ a) b = ap (cond (want r) (answered (r .key ∷ []))) (found-append want a b) ∙ or-cond (want r) (r .key ∷ []) (foundIn want a) (foundIn want b)
+found-append want (r ∷ a) b =
+    ap (cond (want r) (answered (r .key ∷ []))) (found-append want a b)
+    ∙ or-cond (want r) (r .key ∷ []) (foundIn want a) (foundIn want b)
 
 module _ (s : List ℕ) where
   -- no more matches leave the entry
@@ -93,12 +95,15 @@ unfolding inRange
 cast-is (pos n) e = refl
 cast-is (negsuc n) e = absurd (false≢true e)
 
-module _ (s : List ℕ) (locale unwanted : ℕ) (seen : List Record) (r : Record) (c : counts locale unwanted (r .block) ≡ true) (in-range : inRange (r .id) ≡ true) where
-  entry-next : (id : ℕ) → turned (foundEntry s (r .key)) (ofZ w64 (r .id)) id (entryBy s locale unwanted seen id) ≡ entryBy s locale unwanted (seen ++ (r ∷ [])) id
+module _ (s : List ℕ) (locale unwanted : ℕ) (seen : List Record) (r : Record)
+    (c : counts locale unwanted (r .block) ≡ true) (in-range : inRange (r .id) ≡ true) where
+  entry-next : (id : ℕ)
+      → turned (foundEntry s (r .key)) (ofZ w64 (r .id)) id (entryBy s locale unwanted seen id) ≡ entryBy s locale unwanted (seen ++ (r ∷ [])) id
   unfolding entryBy foundIn wanted
   entry-next id =
       let want = wanted id locale unwanted in
-      let test : (counts locale unwanted (r .block) && isId id (r .id)) ≡ eqb id (ofZ w64 (r .id)) = ap (λ t. t && isId id (r .id)) c ∙ is-id id (r .id) in-range in
+      let test : (counts locale unwanted (r .block) && isId id (r .id)) ≡ eqb id (ofZ w64 (r .id)) =
+      ap (λ t. t && isId id (r .id)) c ∙ is-id id (r .id) in-range in
       entry-one s (r .key) (ofZ w64 (r .id)) id (foundIn want seen) (eqb id (ofZ w64 (r .id))) refl
       ∙ ap (λ t. entryFor s (orElse (foundIn want seen) (cond t (answered (r .key ∷ [])) (absent [])))) (sym test)
       ∙ ap (entryFor s) (sym (found-append want seen (r ∷ [])))
@@ -112,6 +117,11 @@ module _ (s : List ℕ) (l : Layout) (at : ℕ) where
   records-next i (suc n) =
       let shift : suc i + n ≡ i + suc n = omega arith in
       ap (λ rs. recordAt s l at i ∷ rs) (records-next (suc i) n ∙ ap (λ j. recordsFrom s l at (suc i) n ++ (recordAt s l at j ∷ [])) shift)
+
+  records-first : (n : ℕ) → recordsFrom s l at 0 (n + 1) ≡ recordsFrom s l at 0 n ++ (recordAt s l at n ∷ [])
+  records-first n =
+      ap (recordsFrom s l at 0) (add-one n) ∙ records-next 0 n
+      ∙ ap (λ j. recordsFrom s l at 0 n ++ (recordAt s l at j ∷ [])) (zero-add n)
 
 -- Before record i of the block at a byte: the id before it, and each entry after the records before it.
 pub record Passing (s : List ℕ) (l : Layout) (at i last : ℕ) (ids old new : List ℕ) : Type 0 where
@@ -190,7 +200,7 @@ module _ {s : List ℕ} {l : Layout} {at i last : ℕ} {ids old new : List ℕ} 
           let rec = recordAt s l at i in
           let records : before ++ (rec ∷ []) ≡ seen ++ recordsFrom s l at 0 (i + 1) =
           append-assoc seen (recordsFrom s l at 0 i) (rec ∷ [])
-          ∙ ap (λ rs. seen ++ rs) (ap (λ j. recordsFrom s l at 0 i ++ (recordAt s l at j ∷ [])) (sym (zero-add i)) ∙ sym (records-next s l at 0 i) ∙ ap (recordsFrom s l at 0) (sym (add-one i))) in
+          ∙ ap (λ rs. seen ++ rs) (sym (records-first s l at i)) in
           held-same
           (λ x. ap₂ (λ k j. turned (foundEntry s k) j x (entryBy s locale unwanted before x)) k (g ∙ record-id)
           ∙ entry-next s locale unwanted before rec t in-range x ∙ ap (λ rs. entryBy s locale unwanted rs x) records)

@@ -1,6 +1,6 @@
 -- The entries in the output while it is filled: what private functions require and ensure; no rule of its own.
 use mathlib.Core.Path.{_≡_}
-use mathlib.Core.Bool.{_&&_, cond}
+use mathlib.Core.Bool.{true, _&&_, cond}
 use mathlib.Core.List.{List, [], _∷_, _++_}
 use Prim.Native.Nat.{ℕ, _*_, _<_, _≤_}
 use lib.Dec.{eqb}
@@ -10,7 +10,7 @@ use Rattle.refusal.specs.Check.{silent}
 use Rattle.refusal.specs.Outcome.{answered}
 use Rattle.root_layout.specs.declared.Layout.{Layout}
 use Rattle.root_block.specs.declared.Block.{Block}
-use Rattle.root_block.specs.Block.{blockOf, deltasOf, blockCheck}
+use Rattle.root_block.specs.Block.{blockOf, deltasOf, blockCheck, counts}
 use Rattle.root.specs.Lookup.{Record, recordsFrom, wanted, foundIn}
 use Rattle.root_find_many.specs.Many.{entrySize, idCount, idAt, entryFor}
 
@@ -24,6 +24,10 @@ pub record Room (ids out : List ℕ) : Type 0 where
 -- Each id's entry is what f gives for it.
 pub record Held (ids out : List ℕ) (f : ℕ → List ℕ) : Type 0 where
   pub each : (j : ℕ) → j < idCount ids → entryAt out j ≡ f (idAt ids j)
+
+-- Each id's entry e becomes turn id e.
+pub record Turned (ids old new : List ℕ) (turn : ℕ → List ℕ → List ℕ) : Type 0 where
+  pub held : (f : ℕ → List ℕ) → Held ids old f → Held ids new (λ x. turn x (f x))
 
 -- What is behind the entries stays.
 pub record Kept (ids old new : List ℕ) : Type 0 where
@@ -53,3 +57,7 @@ pub record BlockAt (s : List ℕ) (l : Layout) (at : ℕ) (k : Block) (d : List 
 pub record BlockPut (s : List ℕ) (l : Layout) (at locale unwanted : ℕ) (ids old new : List ℕ) : Type 0 where
   pub held : (seen : List Record) → Held ids old (entryBy s locale unwanted seen)
       → Held ids new (entryBy s locale unwanted (seen ++ recordsFrom s l at 0 (blockOf l (drop at s) .count)))
+
+-- The same for whatever locale and unwanted bits the block counts.
+pub record CountedPut (s : List ℕ) (l : Layout) (at : ℕ) (k : Block) (ids old new : List ℕ) : Type 0 where
+  pub put : (locale unwanted : ℕ) → counts locale unwanted k ≡ true → BlockPut s l at locale unwanted ids old new

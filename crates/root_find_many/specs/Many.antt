@@ -9,7 +9,7 @@ use Rattle.field.specs.Number.{bigAt}
 use Rattle.refusal.specs.Check.{Check, refusedIf, first, firstFrom}
 use Rattle.refusal.specs.Number.{list-length, list-falls}
 use Rattle.refusal.specs.Outcome.{Outcome, answered, absent, refusal, after}
-use Rattle.refusal.specs.Output.{roomCheck}
+use Rattle.refusal.specs.Output.{roomCheck, filled}
 use Rattle.root_block.specs.Block.{keySize}
 use Rattle.root.specs.Root.{rootCheck}
 use Rattle.root.specs.Lookup.{lookupOf, keyOr}
@@ -45,15 +45,21 @@ entryFor s o = foundFlag o ∷ 0 ∷ 0 ∷ 0 ∷ keyOr s (replicate keySize 0) o
 unfoldable pub manyBytes : (s ids : List ℕ) → (locale unwanted : ℕ) → List ℕ
 manyBytes s ids locale unwanted = partsFrom (λ i. entryFor s (lookupOf s (idAt ids i) locale unwanted)) 0 (idCount ids)
 
+-- 12: the list is not whole ids.
+abbrev pub wholeCheck : List ℕ → Check
+wholeCheck ids = refusedIf (not (eqb (length ids % idSize) 0)) list-length 0
+
 -- 161: id i is below the one before; the place is i.
 unfoldable pub fallCheck : List ℕ → ℕ → Check
 fallCheck ids i = refusedIf (ltb (idAt ids i) (idAt ids (i - 1))) list-falls i
 
+-- 161 for the first id that is below the one before.
+abbrev pub risingCheck : List ℕ → Check
+risingCheck ids = firstFrom (fallCheck ids) 1 (idCount ids - 1)
+
 -- The list: 12, 161.
 unfoldable pub idsCheck : List ℕ → Check
-idsCheck ids =
-    first (refusedIf (not (eqb (length ids % idSize) 0)) list-length 0)
-    (firstFrom (fallCheck ids) 1 (idCount ids - 1))
+idsCheck ids = first (wholeCheck ids) (risingCheck ids)
 
 -- The root's full check (rule R13), 12, 161, 13.
 unfoldable pub manyCheck : (s ids : List ℕ) → (room : ℕ) → Check
@@ -63,6 +69,11 @@ manyCheck s ids room = first (rootCheck s) (first (idsCheck ids) (roomCheck (ent
 abbrev pub manyOutcome : (s ids : List ℕ) → (room : ℕ) → Outcome
 manyOutcome s ids room = after (manyCheck s ids room) (answered (entrySize * idCount ids ∷ []))
 
+-- The output at the end: the entries, and what is behind them; as it was on refusal (rules G13, G16).
+abbrev pub manyOutput : (s ids : List ℕ) → (locale unwanted : ℕ) → List ℕ → List ℕ
+manyOutput s ids locale unwanted output = filled (manyCheck s ids (length output)) (manyBytes s ids locale unwanted) output
+
+-- What the declared answers tell.
 unfoldable pub outcome : Written → Outcome
 outcome (Bytes n) = answered (n ∷ [])
 outcome (Refused r) = refusal (r .number) (r .place)

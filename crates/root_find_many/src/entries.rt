@@ -7,15 +7,15 @@ use parts::copy;
 use parts::part;
 use root_block::KEY_SIZE;
 ghost use mathlib.Core.Path.{_≡_};
-ghost use mathlib.Core.List.{List, _++_};
+ghost use mathlib.Core.List.{_++_};
 ghost use mathlib.Core.Bool.{cond};
-ghost use Prim.Native.Nat.{ℕ, _+_, _*_, _≤_};
+ghost use Prim.Native.Nat.{_+_, _*_, _≤_};
 ghost use lib.Dec.{eqb};
 ghost use lib.ListN.{length, drop, replicate};
 ghost use Rattle.parts.specs.Part.{partsFrom};
 ghost use Rattle.root_find_many.specs.Many as spec;
 ghost use Rattle.root_find_many.specs.Ids.{Rising, Between};
-ghost use Rattle.root_find_many.specs.Entries.{Room, Held, Kept, foundEntry, turned};
+ghost use Rattle.root_find_many.specs.Entries.{Room, Kept, Turned, foundEntry, turned};
 
 // Entries of zeros: nothing is found yet.
 pub(crate) fn clear(count: usize, output: &mut [u8])
@@ -47,7 +47,7 @@ fn put_equals(entry: &[u8; 20], ids: &[u8], id: u32, from: usize, output: &mut [
     requires { ⌜ Between (now ids) id from from ⌝ }
     requires { ⌜ Room (now ids) (now output) ⌝ }
     ensures { λ _. ⌜ Kept (now (ids .entry)) (now (output .entry)) (now (output .exit)) ⌝ }
-    ensures { λ _. ⌜ ((f : ℕ → List ℕ) → Held (now (ids .entry)) (now (output .entry)) f → Held (now (ids .entry)) (now (output .exit)) (λ x. cond (eqb x id) (now (entry .entry)) (f x))) ⌝ }
+    ensures { λ _. ⌜ Turned (now (ids .entry)) (now (output .entry)) (now (output .exit)) (λ x e. cond (eqb x id) (now (entry .entry)) e) ⌝ }
 {
     let n = ids.len() / ID_SIZE;
     let mut i = from;
@@ -73,7 +73,7 @@ pub(crate) fn put_record(
     requires { ⌜ Rising (now ids) ⌝ }
     requires { ⌜ Room (now ids) (now output) ⌝ }
     ensures { λ _. ⌜ Kept (now (ids .entry)) (now (output .entry)) (now (output .exit)) ⌝ }
-    ensures { λ _. ⌜ ((f : ℕ → List ℕ) → Held (now (ids .entry)) (now (output .entry)) f → Held (now (ids .entry)) (now (output .exit)) (λ x. turned (foundEntry (now (file .entry)) key) id x (f x))) ⌝ }
+    ensures { λ _. ⌜ Turned (now (ids .entry)) (now (output .entry)) (now (output .exit)) (turned (foundEntry (now (file .entry)) key) id) ⌝ }
 {
     let at = place(ids, id, guess);
     if ids.len() / ID_SIZE <= at {
@@ -82,7 +82,7 @@ pub(crate) fn put_record(
     if id_at(ids, at) != id {
         return at;
     }
-    if output[ENTRY_SIZE * at] != 0 {
+    if 0 < output[ENTRY_SIZE * at] {
         return at;
     }
     put_equals(&entry_of(file, key), ids, id, at, output);

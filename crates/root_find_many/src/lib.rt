@@ -12,19 +12,17 @@ use root_block::ids::delta;
 use root_layout::Layout;
 use root_layout::Opened;
 ghost use mathlib.Core.Path.{_≡_};
-ghost use mathlib.Core.Bool.{true};
 ghost use mathlib.Core.List.{[]};
-ghost use Prim.Native.Nat.{ℕ, _+_, _*_, _<_, _≤_};
+ghost use Prim.Native.Nat.{_+_, _*_, _<_, _≤_};
 ghost use lib.ListN.{length, drop};
 ghost use Rattle.refusal.specs.Check.{silent};
-ghost use Rattle.refusal.specs.Output.{filled};
 ghost use Rattle.root_block.specs.Ids.{deltaAt};
-ghost use Rattle.root_block.specs.Block.{blockCheck, counts};
+ghost use Rattle.root_block.specs.Block.{blockCheck};
 ghost use Rattle.root.specs.Root.{blocksBy, blocksCheck};
 ghost use Rattle.root.specs.Lookup.{recordsBy};
 ghost use Rattle.root_find_many.specs.Many as spec;
 ghost use Rattle.root_find_many.specs.Ids.{Rising};
-ghost use Rattle.root_find_many.specs.Entries.{Room, Held, Kept, entryBy, BlockAt, BlockPut};
+ghost use Rattle.root_find_many.specs.Entries.{Room, Held, Kept, entryBy, BlockAt, BlockPut, CountedPut};
 
 mod entries;
 mod ids;
@@ -63,7 +61,7 @@ fn put_records(
     requires { ⌜ Rising (now ids) ⌝ }
     requires { ⌜ Room (now ids) (now output) ⌝ }
     ensures { λ _. ⌜ Kept (now (ids .entry)) (now (output .entry)) (now (output .exit)) ⌝ }
-    ensures { λ _. ⌜ ((locale unwanted : ℕ) → counts locale unwanted block ≡ true → BlockPut (now (file .entry)) l at locale unwanted (now (ids .entry)) (now (output .entry)) (now (output .exit))) ⌝ }
+    ensures { λ _. ⌜ CountedPut (now (file .entry)) l at block (now (ids .entry)) (now (output .entry)) (now (output .exit)) ⌝ }
 {
     let count = block.count;
     let mut last: i64 = -1;
@@ -146,7 +144,7 @@ fn fill(file: &[u8], l: Layout, ids: &[u8], locale: u32, unwanted: u64, output: 
 // Looks up each id of a list that rises, in the blocks that share a locale bit and no unwanted content bit.
 pub fn find_many(file: &[u8], ids: &[u8], locale: u32, unwanted: u64, output: &mut [u8]) -> Written
     ensures { λ r. ⌜ spec.outcome r ≡ spec.manyOutcome (now (file .entry)) (now (ids .entry)) (length (now (output .entry))) ⌝ }
-    ensures { λ _. ⌜ now (output .exit) ≡ filled (spec.manyCheck (now (file .entry)) (now (ids .entry)) (length (now (output .entry)))) (spec.manyBytes (now (file .entry)) (now (ids .entry)) locale unwanted) (now (output .entry)) ⌝ }
+    ensures { λ _. ⌜ now (output .exit) ≡ spec.manyOutput (now (file .entry)) (now (ids .entry)) locale unwanted (now (output .entry)) ⌝ }
 {
     match judge(file) {
         Opened::Refused(r) => Written::Refused(r),

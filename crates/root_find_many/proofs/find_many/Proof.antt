@@ -26,7 +26,8 @@ abbrev start-at : tie.After-judge → tie.Start
 start-at c = c .before .before .before .before
 
 -- the file passes its check, with this layout
-opened : (c : tie.After-l) → (rootCheck (start-at (c .before .before) .args .file .now) ≡ silent) × (c .l .given .0 .0 ≡ layoutOf (start-at (c .before .before) .args .file .now))
+opened : (c : tie.After-l)
+    → (rootCheck (start-at (c .before .before) .args .file .now) ≡ silent) × (c .l .given .0 .0 ≡ layoutOf (start-at (c .before .before) .args .file .now))
 opened c =
     let s = start-at (c .before .before) .args .file .now in
     passed-layout (rootCheck s) _ (layoutOf s) (c .before .before .judge .result) (c .before .before .judge .ensures) (c .l .given .1)
@@ -56,7 +57,8 @@ returns c =
     let v = c .before .before .before in
     let l = v .before .before in
     let a = start-at (l .before .before) .args in
-    let e = ids-refused (a .file .now) (a .ids .now) (length (a .output .now)) (opened l .0) (refused-is (v .check-ids .result) _ (v .check-ids .ensures) (c .before .r2 .given .1)) in
+    let falls = refused-is (v .check-ids .result) _ (v .check-ids .ensures) (c .before .r2 .given .1) in
+    let e = ids-refused (a .file .now) (a .ids .now) (length (a .output .now)) (opened l .0) falls in
     (sym (after-said _ e), sym (ap (λ t. filled t (manyBytes (a .file .now) (a .ids .now) (a .locale) (a .unwanted)) (a .output .now)) e))
 
 enum-told : tie.Need-enum-told
@@ -87,7 +89,8 @@ returns-3 c =
     let j = c .before .before .before in
     let a = start-at j .args in
     let s = a .file .now in
-    let e = root-refused s (a .ids .now) (length (a .output .now)) (refused-layout (rootCheck s) (layoutOf s) (j .judge .result) (j .judge .ensures) (c .before .r .given .1)) in
+    let judged = refused-layout (rootCheck s) (layoutOf s) (j .judge .result) (j .judge .ensures) (c .before .r .given .1) in
+    let e = root-refused s (a .ids .now) (length (a .output .now)) judged in
     (sym (after-said _ e), sym (ap (λ t. filled t (manyBytes s (a .ids .now) (a .locale) (a .unwanted)) (a .output .now)) e))
 
 same-length : tie.Need-same-length

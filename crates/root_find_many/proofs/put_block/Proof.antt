@@ -71,7 +71,7 @@ returns-2 c =
     let else1 = c .before .before .before .before .before in
     let a = start-at (else1 .before .before) .args in
     let p = c .before .before .put-records in
-    (p .ensures .0, p .ensures .1 (a .locale) (a .unwanted) (sym (else1 .before .counts .ensures) ∙ not-false _ (else1 .if1 .left)))
+    (p .ensures .0, p .ensures .1 .put (a .locale) (a .unwanted) (sym (else1 .before .counts .ensures) ∙ not-false _ (else1 .if1 .left)))
 
 pub put-block-spec : {M : Type 1} → statement M
 put-block-spec =

@@ -35,13 +35,15 @@ start-at c = c .before .before .before .before .before .before
 here : (c : tie.In-loop Inv-loop μ-loop)
     → let a = start-at c .args in
     let at = c .before .loop .at in
-    Unseen (a .file .now) (a .l) (a .locale) (a .unwanted) (a .ids .now) (c .before .loop .output) (at ∷ blocksAfter (a .file .now) (a .l) (at + sizeAt (a .file .now) (a .l) at))
+    Unseen (a .file .now) (a .l) (a .locale) (a .unwanted) (a .ids .now) (c .before .loop .output)
+    (at ∷ blocksAfter (a .file .now) (a .l) (at + sizeAt (a .file .now) (a .l) at))
 here c =
     let a = start-at c .args in
     walk-here (a .file .now) (a .l) (Unseen (a .file .now) (a .l) (a .locale) (a .unwanted) (a .ids .now) (c .before .loop .output)) (c .before .loop .at)
     (c .loop-test .taken) (c .before .loop .inv .1)
 
-passed : (c : tie.In-loop Inv-loop μ-loop) → blockCheck (start-at c .args .l) (drop (c .before .loop .at) (start-at c .args .file .now)) (c .before .loop .at) ≡ silent
+passed : (c : tie.In-loop Inv-loop μ-loop)
+    → blockCheck (start-at c .args .l) (drop (c .before .loop .at) (start-at c .args .file .now)) (c .before .loop .at) ≡ silent
 passed c =
     let a = start-at c .args in
     unseen-passed (a .file .now) (a .l) (a .locale) (a .unwanted) (a .ids .now) (c .before .loop .output) (c .before .loop .at) _ (here c)
@@ -53,7 +55,8 @@ inside c = rw (← length-drop (c .before .loop .at) (start-at c .args .file .no
 abbrev turn : tie.After-size Inv-loop μ-loop → tie.In-loop Inv-loop μ-loop
 turn c = c .before .before .before .before .before .before .before
 
-moved : (c : tie.After-size Inv-loop μ-loop) → c .size .result ≡ sizeAt (start-at (turn c) .args .file .now) (start-at (turn c) .args .l) (turn c .before .loop .at)
+moved : (c : tie.After-size Inv-loop μ-loop)
+    → c .size .result ≡ sizeAt (start-at (turn c) .args .file .now) (start-at (turn c) .args .l) (turn c .before .loop .at)
 moved c =
     let a = start-at (turn c) .args in
     c .size .ensures ∙ ap (blockSize (a .l)) (c .before .read .ensures ∙ ap (blockOf (a .l)) (part-to-end (turn c .before .loop .at) (a .file .now)))
@@ -99,7 +102,8 @@ loop-again c =
     let put = c .before .before .before .before .before .put-block in
     let at = t .before .loop .at in (
       kept-on (t .before .loop .inv .0) (put .ensures .0),
-      rw (moved c) (record { here = unseen-next (a .file .now) (a .l) (a .locale) (a .unwanted) (a .ids .now) (t .before .loop .output) _ at _ (here t) (put .ensures .1) }),
+      rw (moved c)
+          (record { here = unseen-next (a .file .now) (a .l) (a .locale) (a .unwanted) (a .ids .now) (t .before .loop .output) _ at _ (here t) (put .ensures .1) }),
     )
 
 same-length : tie.Need-same-length Inv-loop μ-loop
@@ -109,7 +113,8 @@ returns : tie.Need-returns Inv-loop μ-loop
 returns c =
     let a = c .before .before .before .before .before .before .args in
     let l = c .before .loop in
-    let w = walk-end (a .file .now) (a .l) (Unseen (a .file .now) (a .l) (a .locale) (a .unwanted) (a .ids .now) (l .output)) (l .at) (c .loop-test .left) (l .inv .1) in
+    let P = Unseen (a .file .now) (a .l) (a .locale) (a .unwanted) (a .ids .now) (l .output) in
+    let w = walk-end (a .file .now) (a .l) P (l .at) (c .loop-test .left) (l .inv .1) in
     (l .inv .0, unseen-none (a .file .now) (a .l) (a .locale) (a .unwanted) (a .ids .now) (l .output) w)
 
 pub put-blocks-spec : {M : Type 1} → statement M

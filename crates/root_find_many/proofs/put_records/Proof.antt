@@ -6,7 +6,8 @@ use lib.ListN.{length, drop}
 use Rattle.root_block.specs.Block.{blockOf, counts}
 use Rattle.root_block.proofs.Signed.{cast-fits}
 use Rattle.root_find_many.proofs.Laid.{kept-room}
-use Rattle.root_find_many.proofs.Seen.{block-count, deltas-long, delta-of, key-of, key-whole, Passing, passing-none, passing-all, seen-fits, next-fits, id-fits, passing-next}
+use Rattle.root_find_many.proofs.Seen.{block-count, deltas-long, delta-of, key-of, key-whole}
+use Rattle.root_find_many.proofs.Seen.{Passing, passing-none, passing-all, seen-fits, next-fits, id-fits, passing-next}
 use borrow.Author.Needs.{needs}
 use Rattle.root_find_many.proofs.put_records.Statement.{statement}
 use Rattle.root_find_many.proofs.put_records.Tie as tie
@@ -44,7 +45,8 @@ add-last : tie.Need-add-last Inv-loop μ-loop
 add-last c =
     let start = c .before .before .before .before .before .before .before in
     let b = start .pre .0 in
-    seen-fits (c .before .before .loop .inv .1) (b .passes) (start .args .block .count) (block-count b) (c .before .loop-test .taken) (c .delta-at .result) (c .delta-at .ok)
+    let d = c .delta-at in
+    seen-fits (c .before .before .loop .inv .1) (b .passes) (start .args .block .count) (block-count b) (c .before .loop-test .taken) (d .result) (d .ok)
 
 cast-last : tie.Need-cast-last Inv-loop μ-loop
 cast-last c = cast-fits (c .delta-at .result) (c .delta-at .ok)
@@ -53,7 +55,8 @@ add-last-2 : tie.Need-add-last-2 Inv-loop μ-loop
 add-last-2 c =
     let start = c .before .before .before .before .before .before .before in
     let b = start .pre .0 in
-    next-fits (c .before .before .loop .inv .1) (b .passes) (start .args .block .count) (block-count b) (c .before .loop-test .taken) (c .delta-at .result) (c .delta-at .ok)
+    let d = c .delta-at in
+    next-fits (c .before .before .loop .inv .1) (b .passes) (start .args .block .count) (block-count b) (c .before .loop-test .taken) (d .result) (d .ok)
 
 key-at-requires : tie.Need-key-at-requires Inv-loop μ-loop
 key-at-requires c κs = search needs
@@ -67,7 +70,8 @@ cast-put-record c =
     let b = start .pre .0 in
     let l = c .before .before .before .loop in
     let d = c .before .delta-at in
-    id-fits (l .inv .1) (b .passes) (start .args .block .count) (block-count b) (c .before .before .loop-test .taken) (d .result) (d .ok) (delta-of b (l .i) _ (d .ensures))
+    let less = c .before .before .loop-test .taken in
+    id-fits (l .inv .1) (b .passes) (start .args .block .count) (block-count b) less (d .result) (d .ok) (delta-of b (l .i) _ (d .ensures))
 
 put-record-requires : tie.Need-put-record-requires Inv-loop μ-loop
 put-record-requires c κs =
@@ -90,7 +94,7 @@ loop-again c =
     let p = c .before .before .put-record in (
       omega arith,
       passing-next (l .inv .1) (b .passes) (start .args .block .count) (block-count b) (k .before .before .loop-test .taken) (d .result) (d .ok)
-          (delta-of b (l .i) _ (d .ensures)) _ _ _ (key-of b (l .i) _ (k .key-at .ensures .0)) refl (p .ensures .0) (p .ensures .1),
+          (delta-of b (l .i) _ (d .ensures)) _ _ _ (key-of b (l .i) _ (k .key-at .ensures .0)) refl (p .ensures .0) (p .ensures .1 .held),
     )
 
 same-length : tie.Need-same-length Inv-loop μ-loop
@@ -102,7 +106,7 @@ returns c =
     let b = start .pre .0 in
     let l = c .before .loop in
     let all : l .i ≡ blockOf (start .args .l) (drop (start .args .at) (start .args .file .now)) .count = omega (arith, block-count b) in
-    (l .inv .1 .kept, λ locale unwanted t. passing-all (l .inv .1) all locale unwanted (ap (counts locale unwanted) (sym (b .header)) ∙ t))
+    (l .inv .1 .kept, record { put = λ locale unwanted t. passing-all (l .inv .1) all locale unwanted (ap (counts locale unwanted) (sym (b .header)) ∙ t) })
 
 pub put-records-spec : {M : Type 1} → statement M
 put-records-spec =

@@ -27,7 +27,9 @@ copy-requires c κs = search needs
 returns : tie.Need-returns
 returns c =
     let start = c .before .before .before .before .before in
-    c .before .copy .ensures ∙ ap (overlay (1 ∷ 0 ∷ 0 ∷ 0 ∷ replicate 16 0) 4) (c .before .before .before .part .ensures) ∙ entry-laid (start .args .file .now) (start .args .at) (start .pre)
+    c .before .copy .ensures
+    ∙ ap (overlay (1 ∷ 0 ∷ 0 ∷ 0 ∷ replicate 16 0) 4) (c .before .before .before .part .ensures)
+    ∙ entry-laid (start .args .file .now) (start .args .at) (start .pre)
 
 pub entry-of-spec : {M : Type 1} → statement M
 entry-of-spec =

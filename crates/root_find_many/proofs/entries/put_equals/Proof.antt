@@ -35,7 +35,7 @@ returns c =
     let l = c .before .before .before .loop in
     let none = none-behind (start .args .ids .now) (start .pre .0) (start .args .id) (start .args .from) (start .pre .1 .0) (l .i) (l .inv .forward)
     (c .before .before .loop-test .taken) (λ e. c .if1 .taken (c .before .id-at .ensures ∙ e)) in
-    (l .inv .kept, putting-all (l .inv) none)
+    (l .inv .kept, record { held = putting-all (l .inv) none })
 
 mul-copy : tie.Need-mul-copy Inv-loop μ-loop
 mul-copy c = search needs
@@ -55,7 +55,8 @@ loop-again c =
     let l = other .before .before .before .loop in
     let start = other .before .before .before .before .before .before in
     let long : length (start .args .entry .now) ≡ 20 = search needs in
-    rw (c .before .before .copy .ensures) (putting-next (l .inv) (start .pre .1 .1) long (other .before .before .loop-test .taken) (sym (other .before .id-at .ensures) ∙ other .if1 .left))
+    let same = sym (other .before .id-at .ensures) ∙ other .if1 .left in
+    rw (c .before .before .copy .ensures) (putting-next (l .inv) (start .pre .1 .1) long (other .before .before .loop-test .taken) same)
 
 same-length-2 : tie.Need-same-length-2 Inv-loop μ-loop
 same-length-2 c = search needs
@@ -63,7 +64,7 @@ same-length-2 c = search needs
 returns-2 : tie.Need-returns-2 Inv-loop μ-loop
 returns-2 c =
     let l = c .before .loop in
-    (l .inv .kept, putting-all (l .inv) (λ j h k e. omega (arith, c .loop-test .left)))
+    (l .inv .kept, record { held = putting-all (l .inv) (λ j h k e. omega (arith, c .loop-test .left)) })
 
 pub put-equals-spec : {M : Type 1} → statement M
 put-equals-spec =

@@ -21,8 +21,10 @@ returns c =
     let start = c .before .before .before .before .before in
     let a = start .args in (
       kept-same _ _,
-      λ f h. turned-none (a .ids .now) (a .output .now) f (foundEntry (a .file .now) (a .key)) (a .id) h
-          (λ j l. none-before (a .ids .now) (start .pre .1 .0) (a .id) (c .before .place .result) (c .before .place .ensures) j (omega (arith, c .if1 .taken))),
+      record {
+        held = λ f h. turned-none (a .ids .now) (a .output .now) f (foundEntry (a .file .now) (a .key)) (a .id) h
+            (λ j l. none-before (a .ids .now) (start .pre .1 .0) (a .id) (c .before .place .result) (c .before .place .ensures) j (omega (arith, c .if1 .taken)));
+      },
     )
 
 id-at-requires : tie.Need-id-at-requires
@@ -34,8 +36,11 @@ returns-2 c =
     let a = start .args in
     let p = c .before .before .before .place in (
       kept-same _ _,
-      λ f h. turned-none (a .ids .now) (a .output .now) f (foundEntry (a .file .now) (a .key)) (a .id) h
-          (none-at (a .ids .now) (start .pre .1 .0) (a .id) (p .result) (p .ensures) (c .before .before .if1 .left) (λ e. c .if2 .taken (c .before .id-at .ensures ∙ e))),
+      record {
+        held = λ f h. turned-none (a .ids .now) (a .output .now) f (foundEntry (a .file .now) (a .key)) (a .id) h
+            (none-at (a .ids .now) (start .pre .1 .0) (a .id) (p .result) (p .ensures) (c .before .before .if1 .left)
+            (λ e. c .if2 .taken (c .before .id-at .ensures ∙ e)));
+      },
     )
 
 mul-if3 : tie.Need-mul-if3
@@ -51,8 +56,10 @@ returns-3 c =
     let a = start .args in
     let p = else2 .before .before .before .place in (
       kept-same _ _,
-      λ f h. turned-found (a .ids .now) (a .output .now) f (foundEntry (a .file .now) (a .key)) (a .id) h
-          (p .result) (else2 .before .before .if1 .left) (sym (else2 .before .id-at .ensures) ∙ else2 .if2 .left) (c .if3 .taken),
+      record {
+        held = λ f h. turned-found (a .ids .now) (a .output .now) f (foundEntry (a .file .now) (a .key)) (a .id) h
+            (p .result) (else2 .before .before .if1 .left) (sym (else2 .before .id-at .ensures) ∙ else2 .if2 .left) (c .if3 .taken);
+      },
     )
 
 entry-of-requires : tie.Need-entry-of-requires
@@ -74,8 +81,11 @@ returns-4 c =
     let a = start .args in
     let p = else2 .before .before .before .place in (
       put .ensures .0,
-      λ f h. turned-new (a .ids .now) (a .output .now) f (foundEntry (a .file .now) (a .key)) (a .id) h
-          (p .result) (else2 .before .before .if1 .left) (sym (else2 .before .id-at .ensures) ∙ else2 .if2 .left) _ (else3 .if3 .left) (rw (entry .ensures) at (put .ensures .1 f h)),
+      record {
+        held = λ f h. turned-new (a .ids .now) (a .output .now) f (foundEntry (a .file .now) (a .key)) (a .id) h
+            (p .result) (else2 .before .before .if1 .left) (sym (else2 .before .id-at .ensures) ∙ else2 .if2 .left) _ (else3 .if3 .left)
+            (rw (entry .ensures) at (put .ensures .1 .held f h));
+      },
     )
 
 pub put-record-spec : {M : Type 1} → statement M

@@ -32,7 +32,8 @@ id-at-requires c κs = search needs
 halve-requires : tie.Need-halve-requires Inv-loop μ-loop
 halve-requires c κs =
     let l = c .before .before .before .loop in
-    (c .before .before .before .before .before .pre .0, between-before _ _ (l .inv .1) (l .low + l .step) (omega arith) (omega arith) (rw (← c .before .id-at .ensures) (c .if1 .taken)))
+    let start = c .before .before .before .before .before in
+    (start .pre .0, between-before _ _ (l .inv .1) (l .low + l .step) (omega arith) (omega arith) (rw (← c .before .id-at .ensures) (c .if1 .taken)))
 
 returns : tie.Need-returns Inv-loop μ-loop
 returns c = search needs
@@ -52,7 +53,8 @@ loop-less c = search needs
 loop-again : tie.Need-loop-again Inv-loop μ-loop
 loop-again c =
     let l = c .before .before .before .loop in
-    (omega arith, between-after _ _ (l .inv .1) (l .low + l .step) (omega arith) (c .before .before .before .before .before .pre .0) (rw (← c .before .id-at .ensures) (c .if1 .left)))
+    let start = c .before .before .before .before .before in
+    (omega arith, between-after _ _ (l .inv .1) (l .low + l .step) (omega arith) (start .pre .0) (rw (← c .before .id-at .ensures) (c .if1 .left)))
 
 halve-requires-2 : tie.Need-halve-requires-2 Inv-loop μ-loop
 halve-requires-2 c κs = search needs

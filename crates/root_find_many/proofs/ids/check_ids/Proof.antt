@@ -43,11 +43,12 @@ refuse-requires-2 c κs = search needs
 
 returns-2 : tie.Need-returns-2 Inv-loop μ-loop
 returns-2 c =
-    let ids = c .before .before .before .before .before .before .before .before .args .ids .now in
-    let l = c .before .before .before .before .before .loop in
+    let at-loop = c .before .before .before .before .before in
+    let ids = at-loop .before .before .before .args .ids .now in
+    let l = at-loop .loop in
     let fall = falls ids (l .i) _ _ (c .before .before .before .id-at .ensures) (c .before .before .id-at2 .ensures) (c .before .if2 .taken) in
     c .refuse2 .ensures
-    ∙ sym (list-whole ids (c .before .before .before .before .before .before .if1 .left) ∙ l .inv .1
+    ∙ sym (list-whole ids (at-loop .before .if1 .left) ∙ l .inv .1
     ∙ upto-said (fallCheck ids) (l .i) (idCount ids) (c .before .before .before .before .loop-test .taken) fall)
 
 add-i : tie.Need-add-i Inv-loop μ-loop

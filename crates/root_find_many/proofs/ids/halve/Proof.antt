@@ -45,7 +45,8 @@ loop-less c = search needs
 loop-again : tie.Need-loop-again Inv-loop μ-loop
 loop-again c =
     let l = c .before .before .before .loop in
-    between-after _ _ (l .inv) (l .low + (l .high - l .low) / 2) (omega arith) (c .before .before .before .before .before .pre .0) (rw (← c .before .id-at .ensures) (c .if1 .taken))
+    let start = c .before .before .before .before .before in
+    between-after _ _ (l .inv) (l .low + (l .high - l .low) / 2) (omega arith) (start .pre .0) (rw (← c .before .id-at .ensures) (c .if1 .taken))
 
 loop-less-2 : tie.Need-loop-less-2 Inv-loop μ-loop
 loop-less-2 c = search needs

@@ -36,7 +36,9 @@ number-of-requires : tie.Need-number-of-requires
 number-of-requires c κs = search needs
 
 returns : tie.Need-returns
-returns c = id-is (c .before .before .before .before .before .before .args .ids .now) (c .before .before .before .before .before .before .args .i) _ _ refl (c .number-of .ensures)
+returns c =
+    let a = c .before .before .before .before .before .before .args in
+    id-is (a .ids .now) (a .i) _ _ refl (c .number-of .ensures)
 
 pub id-at-spec : {M : Type 1} → statement M
 id-at-spec =
