@@ -5,11 +5,11 @@ use Prim.Native.Nat.{ℕ}
 use lib.Dec.{eqb}
 use Rattle.field.specs.Number.{within}
 use Rattle.refusal.specs.Check.{Check, silent, refused}
-use Rattle.refusal.specs.Number.{index-page-hash, last-key, chunk-hash, decoded-size, encoding-page-hash, first-key, block-cut, id-range, hex-digit}
+use Rattle.refusal.specs.Number.{index-page-hash, last-key, chunk-hash, decoded-size, encoding-page-hash, first-key, block-cut, id-range, hex-digit, list-falls}
 use Rattle.text.specs.Text.{ascii, numbered}
 use Rattle.listing.specs.Listing.{listingCheck, textOf}
 
--- Whether a number has a place (rule N1): 6 to 9, 23 to 25, 34 to 37, 40, 41 and 61.
+-- Whether a number has a place (rule N1): 6 to 9, 23 to 25, 34 to 37, 40, 41, 61 and 161.
 unfoldable pub hasPlace : ℕ → Bool
 hasPlace number =
     within number index-page-hash last-key
@@ -17,6 +17,7 @@ hasPlace number =
     || within number encoding-page-hash first-key
     || within number block-cut id-range
     || eqb number hex-digit
+    || eqb number list-falls
 
 -- The place, where the number has one, also a place 0.
 unfoldable pub placeText : ℕ → ℕ → List ℕ

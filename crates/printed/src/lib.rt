@@ -11,6 +11,7 @@ use refusal::HEX_DIGIT;
 use refusal::ID_RANGE;
 use refusal::INDEX_PAGE_HASH;
 use refusal::LAST_KEY;
+use refusal::LIST_FALLS;
 use refusal::Refusal;
 use text::put;
 use text::put_number;
@@ -34,6 +35,7 @@ fn has_place(number: u32) -> bool
         || within(number, ENCODING_PAGE_HASH, FIRST_KEY)
         || within(number, BLOCK_CUT, ID_RANGE)
         || number == HEX_DIGIT
+        || number == LIST_FALLS
 }
 
 // The place of a refusal, where it has one.

@@ -147,14 +147,16 @@ module _ {s : List ℕ} {l : Layout} {id locale unwanted at n i last : ℕ}
     pub passing-next : (ofZ w64 (reckoned last r) ≡ id → ⊥) → Passing s l id locale unwanted at n (i + 1) (ofZ w64 (reckoned last r))
     unfolding recordAt wanted
     passing-next other =
-        let not-this = second (counts locale unwanted (blockOf l (drop at s))) (isId id (idAt (deltasOf l (drop at s)) i)) (other-id id _ (λ g. other (ap (ofZ w64) is-next ∙ g))) in
+        let not-this = second (counts locale unwanted (blockOf l (drop at s))) (isId id (idAt (deltasOf l (drop at s)) i))
+        (other-id id _ (λ g. other (ap (ofZ w64) is-next ∙ g))) in
         record {
           before = next-before s l at n i last (p .before) e c h r small q;
           none = λ tail. here tail ∙ not-wanted (wanted id locale unwanted) (recordAt s l at i) _ not-this;
         }
 
     pub passing-found : counts locale unwanted (blockOf l (drop at s)) ≡ true → ofZ w64 (reckoned last r) ≡ id
-        → (tail : List Record) → foundIn (wanted id locale unwanted) (recordsFrom s l at 0 n ++ tail) ≡ answered ((at + block.keyAt l (blockOf l (drop at s)) i) ∷ [])
+        → (tail : List Record)
+        → foundIn (wanted id locale unwanted) (recordsFrom s l at 0 n ++ tail) ≡ answered ((at + block.keyAt l (blockOf l (drop at s)) i) ∷ [])
     unfolding recordAt wanted
     passing-found t same tail =
         here tail

@@ -1,11 +1,12 @@
--- `printed::has_place`: within one of the first two ranges, of the first three, of all four.
+-- `printed::has_place`: within one of the first two ranges, of the first three, of all four; one number more.
 use mathlib.Core.Path.{_≡_, refl, sym, ap, _∙_}
 use mathlib.Core.Bool.{Bool, true, false, _||_}
 use mathlib.Core.Logic.{⊎-elim}
 use Prim.Native.Nat.{ℕ}
+use lib.Dec.{eqb}
 use borrow.Author.Needs.{needs}
 use Rattle.field.specs.Number.{within}
-use Rattle.refusal.specs.Number.{index-page-hash, last-key, chunk-hash, decoded-size, encoding-page-hash, first-key, block-cut, id-range}
+use Rattle.refusal.specs.Number.{index-page-hash, last-key, chunk-hash, decoded-size, encoding-page-hash, first-key, block-cut, id-range, hex-digit}
 use Rattle.printed.specs.Printed.{hasPlace}
 use Rattle.printed.proofs.has_place.Statement.{statement}
 use Rattle.printed.proofs.has_place.Tie as tie
@@ -44,6 +45,16 @@ in-four c =
     let e = in-three (c .before) in
     ⊎-elim {C = c .if3 .if4 ≡ four (c .before .before .before .before .args .number)} (λ w. or-first _ _ _ _ (w .0 .taken) (w .1) e) (λ w. or-second _ _ _ _ _ (w .0 .left) (w .2) e (w .1 .ensures)) (c .if3 .came)
 
+five : ℕ → Bool
+five n = four n || eqb n hex-digit
+
+in-five : (c : tie.Joined4) → c .if4 .if5 ≡ five (c .before .before .before .before .before .args .number)
+unfolding five
+in-five c =
+    let e = in-four (c .before) in
+    ⊎-elim {C = c .if4 .if5 ≡ five (c .before .before .before .before .before .args .number)}
+    (λ w. or-first _ _ _ _ (w .0 .taken) (w .1) e) (λ w. or-second _ _ _ _ _ (w .0 .left) (w .1) e refl) (c .if4 .came)
+
 within-requires : tie.Need-within-requires
 within-requires c κs = search needs
 
@@ -57,12 +68,12 @@ within-requires-4 : tie.Need-within-requires-4
 within-requires-4 c κs = search needs
 
 returns : tie.Need-returns
-unfolding hasPlace four three two
-returns c = or-first _ _ _ _ (c .if4 .taken) refl (in-four (c .before))
+unfolding hasPlace five four three two
+returns c = or-first _ _ _ _ (c .if5 .taken) refl (in-five (c .before))
 
 returns-2 : tie.Need-returns-2
-unfolding hasPlace four three two
-returns-2 c = or-second _ _ _ _ _ (c .if4 .left) refl (in-four (c .before)) refl
+unfolding hasPlace five four three two
+returns-2 c = or-second _ _ _ _ _ (c .if5 .left) refl (in-five (c .before)) refl
 
 pub has-place-spec : {M : Type 1} → statement M
 has-place-spec =

@@ -100,10 +100,11 @@ loop-again c =
     let t = turn c in
     let a = start-at t .args in
     let put = c .before .before .before .before .before .put-block in
-    let at = t .before .loop .at in (
+    let at = t .before .loop .at in
+    let old = t .before .loop .output in (
       kept-on (t .before .loop .inv .0) (put .ensures .0),
       rw (moved c)
-          (record { here = unseen-next (a .file .now) (a .l) (a .locale) (a .unwanted) (a .ids .now) (t .before .loop .output) _ at _ (here t) (put .ensures .1) }),
+          (record { here = unseen-next (a .file .now) (a .l) (a .locale) (a .unwanted) (a .ids .now) old _ at _ (here t) (put .ensures .1) }),
     )
 
 same-length : tie.Need-same-length Inv-loop μ-loop

@@ -19,11 +19,12 @@ place-requires c κs = search needs
 returns : tie.Need-returns
 returns c =
     let start = c .before .before .before .before .before in
-    let a = start .args in (
+    let a = start .args in
+    let p = c .before .place in (
       kept-same _ _,
       record {
         held = λ f h. turned-none (a .ids .now) (a .output .now) f (foundEntry (a .file .now) (a .key)) (a .id) h
-            (λ j l. none-before (a .ids .now) (start .pre .1 .0) (a .id) (c .before .place .result) (c .before .place .ensures) j (omega (arith, c .if1 .taken)));
+            (λ j l. none-before (a .ids .now) (start .pre .1 .0) (a .id) (p .result) (p .ensures) j (omega (arith, c .if1 .taken)));
       },
     )
 
