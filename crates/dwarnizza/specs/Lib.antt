@@ -4,4 +4,3 @@ pub mod FileNumbers
 pub mod Indexes
 pub mod Keys
 pub mod Md5State
-pub mod Roots

@@ -7,9 +7,8 @@ ghost use mathlib.Core.Path.{_≡_};
 ghost use lib.ListN.{length};
 ghost use Rattle.root.specs.Root.{rootCheck};
 ghost use Rattle.root.specs.Lookup.{lookupOf, keyOr};
-ghost use Rattle.root_find_many.specs.Many.{manyOutcome};
+ghost use Rattle.root_find_many.specs.Many.{manyOutcome, manyOutput};
 ghost use Rattle.dwarnizza.specs.Answer.{result, answerWords, verdictOutcome};
-ghost use Rattle.dwarnizza.specs.Roots.{manyOutput};
 
 // The check of a whole root file.
 #[no_mangle]

@@ -19,7 +19,9 @@ use Rattle.worklist.specs.Rows.{quote, stops, stopFrom, closingFrom, fieldAt, s
 use Rattle.worklist.proofs.Laws.{there, behind}
 use Rattle.worklist.proofs.Rows.{closing-range, Quoted, field-cases}
 use Rattle.worklist.proofs.Fields.{Fields, last, more, fields-of}
-use Rattle.worklist_joined.specs.Joined.{doubled, InQuotes, Holds, FieldsHold}
+use Rattle.worklist_unquoted.specs.Unquoted.{inFront, doubled, contentOf, quotedText}
+use Rattle.worklist_unquoted.proofs.Quoting.{back}
+use Rattle.worklist_joined.specs.Joined.{Holds, FieldsHold}
 
 -- ---- a plain field
 
@@ -43,11 +45,11 @@ unfolding doubled
 closed-none = record { content = []; is = refl }
 
 closed-other : (b : ℕ) {bytes : List ℕ} → eqb b quote ≡ false → Closed bytes → Closed (b ∷ bytes)
-unfolding doubled
+unfolding doubled inFront
 closed-other b e c = record { content = b ∷ c .content; is = ap (λ r. b ∷ r) (c .is) ∙ rw e }
 
 closed-doubled : {bytes : List ℕ} → Closed bytes → Closed (quote ∷ quote ∷ bytes)
-unfolding doubled
+unfolding doubled inFront
 closed-doubled c = record { content = quote ∷ c .content; is = ap (λ r. quote ∷ quote ∷ r) (c .is) }
 
 -- the quote that waits for what follows it
@@ -86,17 +88,16 @@ closed-by true at (b ∷ s) end e =
 -- ---- a field of a row
 
 module _ (sep : ℕ) (t : List ℕ) where
-  quoted-bytes : (at end : ℕ) (quoted : Bool) → Quoted sep t at end quoted → InQuotes (partAt t at (end - at))
+  quoted-bytes : (at end : ℕ) (quoted : Bool) → Quoted sep t at end quoted
+      → partAt t at (end - at) ≡ quotedText (contentOf (partAt t at (end - at)))
   unfolding pending-quote
   quoted-bytes at end quoted q =
       let c = closed-by false (at + 1) (drop (at + 1) t) end (q .closed) in
       let r = closing-range false (at + 1) (drop (at + 1) t) end (q .closed) in
-      record {
-        content = c .content;
-        is =
-            ap (take (end - at)) (behind t at (there t at quote (sym (q .opened)) (omega arith)))
-            ∙ step at end (r .0) (byteAt t at) (drop (at + 1) t) ∙ ap₂ _∷_ (q .opened) (c .is);
-      }
+      let is : partAt t at (end - at) ≡ quotedText (c .content) =
+      ap (take (end - at)) (behind t at (there t at quote (sym (q .opened)) (omega arith)))
+      ∙ step at end (r .0) (byteAt t at) (drop (at + 1) t) ∙ ap₂ _∷_ (q .opened) (c .is) in
+      is ∙ ap quotedText (sym (ap contentOf is ∙ back (c .content)))
 
   field-holds : (at end : ℕ) (quoted : Bool) → fieldAt sep t at ≡ field.Whole end quoted → Holds sep t (spanOf at end quoted)
   field-holds at end quoted e =

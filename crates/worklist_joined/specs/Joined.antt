@@ -3,10 +3,11 @@ use mathlib.Core.Path.{_≡_}
 use mathlib.Core.Bool.{true, false, cond}
 use mathlib.Core.List.{List, [], _∷_, _++_}
 use Prim.Native.Nat.{ℕ, zero, suc, _+_, _-_, _<_}
-use lib.Dec.{ltb, eqb}
+use lib.Dec.{ltb}
 use lib.ListN.{length}
 use Rattle.parts.specs.Part.{byteAt, partAt, overlay}
 use Rattle.worklist.specs.declared.Span.{Span}
+use Rattle.worklist_unquoted.specs.Unquoted.{contentOf, quotedText}
 use Rattle.worklist.specs.Rows.{quote, cr, lf, stops, noSeparator, behindLineEnd, Row, whole, malformed, rowAt, rowEnd, fieldOutcome, fieldPart, spanIn}
 
 -- ---- rows
@@ -114,20 +115,11 @@ pub record HasFields (sep : ℕ) (t : List ℕ) (at count : ℕ) : Type 0 where
 
 -- ---- what a field holds
 
--- Each quote doubled.
-unfoldable pub doubled : List ℕ → List ℕ
-doubled [] = []
-doubled (b ∷ s) = cond (eqb b quote) (quote ∷ quote ∷ doubled s) (b ∷ doubled s)
-
--- A quoted field is a quote, its content with each quote doubled, and a quote (rule D11).
-pub record InQuotes (bytes : List ℕ) : Type 0 where
-  pub content : List ℕ
-  pub is : bytes ≡ quote ∷ (doubled content ++ (quote ∷ []))
-
--- A plain field holds no separator, CR or LF (rule D11).
+-- A plain field holds no separator, CR or LF; a quoted one is a quote, the bytes that it stands for with each quote doubled, and a
+-- quote (rule D11).
 pub record Holds (sep : ℕ) (t : List ℕ) (f : Span) : Type 0 where
   pub plain : f .quoted ≡ false → (i : ℕ) → i < f .length → stops sep (byteAt t (f .at + i)) ≡ false
-  pub in-quotes : f .quoted ≡ true → InQuotes (fieldBytes t f)
+  pub in-quotes : f .quoted ≡ true → fieldBytes t f ≡ quotedText (contentOf (fieldBytes t f))
 
 abbrev pub FieldsHold : (sep : ℕ) → List ℕ → Type 0
 FieldsHold sep t =
