@@ -8,6 +8,7 @@
 pub mod chain;
 pub mod encoding;
 pub mod envelope;
+pub mod file_number;
 pub mod index;
 pub mod key;
 pub mod md5;
@@ -15,3 +16,4 @@ pub mod md5_suite;
 mod number;
 pub mod refusal;
 pub mod root;
+pub mod worklist;

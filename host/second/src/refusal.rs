@@ -167,3 +167,8 @@ pub fn hex_digit(digit: usize) -> Refusal {
 
 /// Listing input above 65,536 bytes.
 pub const LISTING_INPUT: Refusal = refusal(70);
+
+/// Id below the one before.
+pub fn list_falls(id: usize) -> Refusal {
+    refusal_at(161, id)
+}

@@ -1,9 +1,11 @@
 //! Root files, taken out of their envelopes.
 
 mod layout;
+mod many;
 mod write;
 
 pub use layout::MAGICS;
+pub use many::find_many;
 pub use write::{BlockParts, Header, Record, write};
 
 use std::iter;
