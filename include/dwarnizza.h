@@ -99,7 +99,8 @@ enum {
     X(DWARNIZZA_HASH_LIMIT, 50, "more than 2^48 bytes hashed", "") \
     X(DWARNIZZA_KEY_TEXT_LENGTH, 60, "key text not two characters for each byte of the key", "") \
     X(DWARNIZZA_HEX_DIGIT, 61, "not a hex digit", "digit") \
-    X(DWARNIZZA_LISTING_INPUT, 70, "listing input above 65,536 bytes", "")
+    X(DWARNIZZA_LISTING_INPUT, 70, "listing input above 65,536 bytes", "") \
+    X(DWARNIZZA_LIST_FALLS, 161, "list falls", "id")
 
 enum {
 #define DWARNIZZA_NUMBER(name, number, words, place) name = number,

@@ -44,6 +44,7 @@ mod answer;
 pub mod chain;
 pub mod encoding;
 pub mod envelope;
+mod file_number;
 pub mod index;
 mod key;
 #[expect(unsafe_code, reason = "the only module that calls C")]
@@ -51,12 +52,15 @@ mod library;
 mod md5;
 mod refusal;
 pub mod root;
+pub mod worklist;
 
 pub use chain::{Build, UncheckedBuild};
 pub use encoding::{CheckedEncoding, Encoding, UncheckedEncoding};
 pub use envelope::{CheckedEnvelope, Envelope};
+pub use file_number::{NotFileNumber, NumberFault, file_number};
 pub use index::{CheckedIndex, Index, UncheckedIndex};
 pub use key::Key;
 pub use md5::{Md5, md5};
 pub use refusal::{Link, Reason, Refusal};
 pub use root::{CheckedRoot, Root};
+pub use worklist::Worklist;

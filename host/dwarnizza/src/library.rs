@@ -244,6 +244,30 @@ pub fn root_find(file: &[u8], id: u32, locale: u32, unwanted: u64, key: &mut [u8
     })
 }
 
+/// The ids are numbers of four bytes, big-endian.
+pub fn root_find_many(
+    file: &[u8],
+    ids: &[u8],
+    locale: u32,
+    unwanted: u64,
+    output: &mut [u8],
+) -> Answered {
+    // SAFETY: each pointer and length are those of one slice, and no other borrows the output.
+    answered(|answer| unsafe {
+        ffi::dwarnizza_root_find_many(
+            file.as_ptr(),
+            file.len(),
+            ids.as_ptr(),
+            ids.len(),
+            locale,
+            unwanted,
+            output.as_mut_ptr(),
+            output.len(),
+            answer,
+        )
+    })
+}
+
 /// The files are root, encoding file and index.
 pub fn resolve(files: [&[u8]; 3], id: u32, locale: u32, unwanted: u64) -> Searched {
     let [root, encoding, index] = files;
@@ -262,4 +286,26 @@ pub fn resolve(files: [&[u8]; 3], id: u32, locale: u32, unwanted: u64) -> Search
             answer,
         )
     })
+}
+
+pub fn worklist_row(text: &[u8], at: usize, separator: u32) -> Searched {
+    let (data, length) = (text.as_ptr(), text.len());
+    // SAFETY: pointer and length are those of one slice.
+    searched(|answer| unsafe { ffi::dwarnizza_worklist_row(data, length, at, separator, answer) })
+}
+
+pub fn worklist_field(text: &[u8], at: usize, separator: u32, column: usize) -> Searched {
+    let (data, length) = (text.as_ptr(), text.len());
+    // SAFETY: pointer and length are those of one slice.
+    searched(|answer| unsafe {
+        ffi::dwarnizza_worklist_field(data, length, at, separator, column, answer)
+    })
+}
+
+pub fn worklist_unquoted(field: &[u8], output: &mut [u8]) -> Answered {
+    answered(filling(ffi::dwarnizza_worklist_unquoted, field, output))
+}
+
+pub fn file_number(text: &[u8]) -> Searched {
+    searched(one_input(ffi::dwarnizza_file_number, text))
 }

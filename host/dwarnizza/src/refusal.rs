@@ -96,6 +96,8 @@ pub enum Reason {
     HexDigit = 61,
     /// Listing input above 65,536 bytes.
     ListingInput = 70,
+    /// List falls: an id below the one before; place: id.
+    ListFalls = 161,
 }
 
 /// What the place of a reason counts.
@@ -107,11 +109,12 @@ enum Place {
     Chunk,
     BlockAtByte,
     Digit,
+    Id,
 }
 
 /// What each reason says, and what its place counts, by number.
-const MEANINGS: [(Reason, &str, Place); 40] = {
-    use Place::{BlockAtByte, Chunk, Digit, Entry, Nothing, Page};
+const MEANINGS: [(Reason, &str, Place); 41] = {
+    use Place::{BlockAtByte, Chunk, Digit, Entry, Id, Nothing, Page};
     use Reason::*;
     [
         (IndexShort, "index under 28 bytes", Nothing),
@@ -194,6 +197,7 @@ const MEANINGS: [(Reason, &str, Place); 40] = {
         ),
         (HexDigit, "not a hex digit", Digit),
         (ListingInput, "listing input above 65,536 bytes", Nothing),
+        (ListFalls, "list falls", Id),
     ]
 };
 
@@ -317,6 +321,7 @@ impl fmt::Display for Refusal {
             Place::Chunk => write!(f, " (chunk {place})"),
             Place::BlockAtByte => write!(f, " (block at byte {place})"),
             Place::Digit => write!(f, " (digit {place})"),
+            Place::Id => write!(f, " (id {place})"),
         }
     }
 }
@@ -409,6 +414,7 @@ mod tests {
             (34..=37, "page 5"),
             (40..=41, "block at byte 5"),
             (61..=61, "digit 5"),
+            (161..=161, "id 5"),
         ];
         for reason in Reason::all() {
             let number = reason.number();

@@ -99,7 +99,8 @@ impl<'a> CheckedRoot<'a> {
     /// The first record of this id, in file order, in the blocks whose locale flags share a bit
     /// with `locale` and whose content flags share none with `unwanted`; none where it is absent.
     ///
-    /// The library checks the whole file once more for each search.
+    /// The library checks the whole file once more for each search;
+    /// [`find_many`](Self::find_many) does so once for a whole list.
     ///
     /// ```
     /// use dwarnizza::Root;
@@ -127,4 +128,45 @@ impl<'a> CheckedRoot<'a> {
             place: size(place),
         })
     }
+    /// The content keys of many ids, each as [`find`](Self::find) finds it, in one pass over the
+    /// file; none for an id that is absent. The ids rise, and neighbours may be equal.
+    ///
+    /// Refused with [`ListFalls`] where an id is below the one before; the place is its number in
+    /// the list.
+    ///
+    /// ```
+    /// use dwarnizza::{Reason, Root};
+    ///
+    /// let file = std::fs::read("../../sample/root-v2")?;
+    /// let root = Root::check(&file)?;
+    /// let keys = root.find_many(&[0, 417, 417], 0x2, 0)?;
+    /// let key = root.find(417, 0x2, 0).map(|record| record.key);
+    /// assert_eq!(keys, [None, key, key]);
+    ///
+    /// let refused = root.find_many(&[417, 418, 9], 0x2, 0).unwrap_err();
+    /// assert_eq!((refused.reason, refused.place), (Reason::ListFalls, 2));
+    /// # Ok::<(), Box<dyn std::error::Error>>(())
+    /// ```
+    ///
+    /// [`ListFalls`]: crate::Reason::ListFalls
+    pub fn find_many(
+        self,
+        ids: &[u32],
+        locale: u32,
+        unwanted: u64,
+    ) -> Result<Vec<Option<[u8; 16]>>, Refusal> {
+        let list: Vec<u8> = ids.iter().flat_map(|id| id.to_be_bytes()).collect();
+        let mut output = vec![0; FOUND * ids.len()];
+        library::root_find_many(self.file, &list, locale, unwanted, &mut output)?;
+        let (answers, _) = output.as_chunks::<FOUND>();
+        Ok(answers.iter().map(|&answer| key_found(answer)).collect())
+    }
+}
+
+/// How many bytes the library writes for each of many ids.
+const FOUND: usize = 20;
+
+/// The content key that follows 1 and three zeros; none where the id is absent.
+fn key_found([found, _, _, _, key @ ..]: [u8; FOUND]) -> Option<[u8; 16]> {
+    (found == 1).then_some(key)
 }

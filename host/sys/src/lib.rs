@@ -184,6 +184,18 @@ unsafe extern "C" {
         answer: &mut [u64; 8],
     ) -> u32;
 
+    pub fn dwarnizza_root_find_many(
+        file: *const u8,
+        file_len: usize,
+        ids: *const u8,
+        ids_len: usize,
+        locale: u32,
+        unwanted: u64,
+        output: *mut u8,
+        output_len: usize,
+        answer: &mut [u64; 8],
+    ) -> u32;
+
     pub fn dwarnizza_resolve(
         root: *const u8,
         root_len: usize,
@@ -204,4 +216,31 @@ unsafe extern "C" {
         key: &mut [u8; 16],
         answer: &mut [u64; 8],
     ) -> u32;
+
+    pub fn dwarnizza_worklist_row(
+        text: *const u8,
+        text_len: usize,
+        at: usize,
+        separator: u32,
+        answer: &mut [u64; 8],
+    ) -> u32;
+
+    pub fn dwarnizza_worklist_field(
+        text: *const u8,
+        text_len: usize,
+        at: usize,
+        separator: u32,
+        column: usize,
+        answer: &mut [u64; 8],
+    ) -> u32;
+
+    pub fn dwarnizza_worklist_unquoted(
+        field: *const u8,
+        field_len: usize,
+        output: *mut u8,
+        output_len: usize,
+        answer: &mut [u64; 8],
+    ) -> u32;
+
+    pub fn dwarnizza_file_number(text: *const u8, text_len: usize, answer: &mut [u64; 8]) -> u32;
 }
