@@ -580,6 +580,24 @@ uint32_t dwarnizza_root_find(const uint8_t *file, size_t file_len, uint32_t id,
                              uint8_t key[16], uint64_t answer[8]);
 
 /*
+ * The content keys of many ids, each as dwarnizza_root_find finds it, with one
+ * check of the file and one pass over it. ids are numbers of 4 bytes each,
+ * big-endian, that rise; neighbours may be equal. For each id 20 bytes are
+ * written: 1 where it is found and 0 where it is absent, three zeros, and the 16
+ * bytes of its content key, zeros where it is absent.
+ * Answered: the first 20 * (ids_len / 4) bytes of output are written, and those
+ * past them stay; answer[0] is how many were written.
+ * Refused: as the full check refuses, which is made first; then 12 where ids_len
+ * is no multiple of 4; then 161, with the number of the first id that is below
+ * the one before, from 0; then 13 where output is shorter than what is written.
+ */
+uint32_t dwarnizza_root_find_many(const uint8_t *file, size_t file_len,
+                                  const uint8_t *ids, size_t ids_len,
+                                  uint32_t locale, uint64_t unwanted,
+                                  uint8_t *output, size_t output_len,
+                                  uint64_t answer[8]);
+
+/*
  * Chain
  *
  * The chain leads from a file number to the encoded size and the location of
@@ -628,6 +646,92 @@ uint32_t dwarnizza_resolve(const uint8_t *root, size_t root_len,
 uint32_t dwarnizza_key_text(const uint8_t *text, size_t text_len,
                             uint8_t key_length, uint8_t key[16],
                             uint64_t answer[8]);
+
+/*
+ * Worklists
+ *
+ * A worklist is separated text (RFC 4180): any bytes, and a separator, which is
+ * a byte and no quote (34), CR (13) or LF (10).
+ *
+ * A row begins at any byte before the text's end. Its fields stand one after the
+ * other with a separator between each two, and it ends where the last one ends:
+ * before LF, CR LF or a CR that no LF follows, or at the text's end. The next
+ * row begins behind that line end, or at the text's end. An empty row has one
+ * field, of no bytes.
+ *
+ * A field that begins with a quote is quoted. It goes up to and with its closing
+ * quote, the first behind the opening one that is not doubled, and may hold
+ * separators and line ends; two quotes in it stand for one. Any other field is
+ * plain: it ends before the first separator, CR or LF, or at the text's end, and
+ * a quote in it is a byte like any other.
+ *
+ * A row is malformed where another byte than a separator, CR or LF stands behind
+ * a closing quote, at the place of that byte, and where a quoted field is never
+ * closed, at the place of its opening quote. The first such place counts. A
+ * malformed row ends at the first CR or LF from there on, or at the text's end.
+ *
+ * The rows from byte 0 on, each with its line end, are the text:
+ *
+ *     at = 0;
+ *     while (dwarnizza_worklist_row(text, text_len, at, ',', answer) ==
+ *            DWARNIZZA_ANSWERED) {
+ *         the row is text[at] up to text[answer[0]];
+ *         at = answer[1];
+ *     }
+ *
+ * Places are byte offsets in the whole text.
+ */
+
+/*
+ * The row that begins at byte at.
+ * Answered: answer[0] is where the row ends, [1] where the next begins, [2] the
+ * number of its fields. Where it is malformed, [2] is 0, [3] is 1 and [4] is the
+ * place.
+ * Absent: at is at the text's end or behind it; no word of the answer is named.
+ * Refused: 11 where the separator is none.
+ */
+uint32_t dwarnizza_worklist_row(const uint8_t *text, size_t text_len, size_t at,
+                                uint32_t separator, uint64_t answer[8]);
+
+/*
+ * The field of a column, from 0, of the row that begins at byte at.
+ * Answered: answer[0] and [1] are the place and the length of the field, with
+ * its quotes; [2] is 1 where it is quoted, else 0.
+ * Absent: no row begins there, it is malformed, or it has no such field; no word
+ * of the answer is named.
+ * Refused: 11 where the separator is none.
+ */
+uint32_t dwarnizza_worklist_field(const uint8_t *text, size_t text_len,
+                                  size_t at, uint32_t separator, size_t column,
+                                  uint64_t answer[8]);
+
+/*
+ * The bytes that a field stands for: of a whole quoted field what is between its
+ * quotes, with each doubled quote as one; any other bytes stand for themselves.
+ * An output of field_len bytes is enough.
+ * Answered: they are written to the start of output, and what is past them
+ * stays; answer[0] is how many they are.
+ * Refused: 13 where output is shorter.
+ */
+uint32_t dwarnizza_worklist_unquoted(const uint8_t *field, size_t field_len,
+                                     uint8_t *output, size_t output_len,
+                                     uint64_t answer[8]);
+
+/*
+ * The file number (FileDataID) that this is the decimal text of: digits alone,
+ * with no zero in front of others, and at most 4,294,967,295. So no two texts
+ * have the same number.
+ * Answered: answer[0] is the number.
+ * Absent: the text is no file number. answer[0] says why, by the first that
+ * holds, and [1] is the place of the byte, from 0:
+ *
+ *     1  it is empty; place 0
+ *     2  it begins with 0, and more follows; place 0
+ *     3  a byte is no digit; the place of the first
+ *     4  it is above 4,294,967,295; the digit by which it passes that
+ */
+uint32_t dwarnizza_file_number(const uint8_t *text, size_t text_len,
+                               uint64_t answer[8]);
 
 #ifdef __cplusplus
 }

@@ -1,4 +1,4 @@
-use dwarnizza_sys::{dwarnizza_root_check, dwarnizza_root_find};
+use dwarnizza_sys::{dwarnizza_root_check, dwarnizza_root_find, dwarnizza_root_find_many};
 use second::root::{BlockParts, Header, Record};
 
 use crate::call::{ABSENT, Answer, answer, answered, one_input, refused};
@@ -68,4 +68,87 @@ fn each_refusal_writes_the_whole_answer() {
     file[4] = 20;
     file[8] = 4;
     expect(&file, 44, 0);
+}
+
+/// The answer, and the output that was lent, of this length.
+fn find_many(
+    file: &[u8],
+    ids: &[u8],
+    locale: u32,
+    unwanted: u64,
+    room: usize,
+) -> (Answer, Vec<u8>) {
+    let mut output = vec![0xee; room];
+    let (start, length) = (file.as_ptr(), file.len());
+    let (list, list_length) = (ids.as_ptr(), ids.len());
+    let to = output.as_mut_ptr();
+    // SAFETY: each pointer and length are those of one slice, and the slices do not overlap.
+    let answer = answer(|answer| unsafe {
+        dwarnizza_root_find_many(
+            start,
+            length,
+            list,
+            list_length,
+            locale,
+            unwanted,
+            to,
+            room,
+            answer,
+        )
+    });
+    (answer, output)
+}
+
+fn list(ids: &[u32]) -> Vec<u8> {
+    ids.iter().flat_map(|id| id.to_be_bytes()).collect()
+}
+
+/// For each id what is said of it, by the key's bytes, then the bytes that stay.
+fn expected(keys: &[Option<u8>], room: usize) -> Vec<u8> {
+    let mut output: Vec<u8> = Vec::new();
+    for key in keys {
+        output.extend([key.is_some().into(), 0, 0, 0]);
+        output.extend([key.unwrap_or(0); 16]);
+    }
+    output.resize(room, 0xee);
+    output
+}
+
+#[test]
+fn many_ids_fill_the_output_and_no_more() {
+    let (file, ids) = (file(), list(&[4, 5, 5, 6]));
+    for (locale, unwanted, key) in [
+        (1, 0, Some(7)),
+        (2, 0, Some(8)),
+        (3, 0, Some(7)),
+        (2, 1, None),
+    ] {
+        for room in [80, 81, 200] {
+            let written = expected(&[None, key, key, None], room);
+            let found = find_many(&file, &ids, locale, unwanted, room);
+            assert_eq!(found, (answered(80), written));
+        }
+    }
+    for room in [0, 20] {
+        assert_eq!(
+            find_many(&file, &[], 1, 0, room),
+            (answered(0), expected(&[], room))
+        );
+    }
+}
+
+/// Each refusal comes before those after it, and keeps the output.
+#[test]
+fn many_ids_refuse_in_order() {
+    let file = file();
+    let mut falling = list(&[5, 6, 6, 4, 3]);
+    let expect = |file: &[u8], ids: &[u8], room: usize, number: u64, place: usize| {
+        let kept = (refused(number, place as u64), expected(&[], room));
+        assert_eq!(find_many(file, ids, 1, 0, room), kept);
+    };
+    expect(&file, &list(&[5, 5]), 39, 13, 0);
+    expect(&file, &falling, 39, 161, 3);
+    falling.push(0);
+    expect(&file, &falling, 39, 12, 0);
+    expect(&file[..file.len() - 1], &falling, 39, 40, BLOCKS[1]);
 }

@@ -185,6 +185,30 @@ fn file_numbers(none: Pointers) -> Vec<Case> {
     ]
 }
 
+/// Lists of file numbers, and the texts that they come as.
+fn worklists(none: Pointers) -> Vec<Case> {
+    let (root, mut output) = (sample("root-v1"), [0; 20]);
+    let (r, r_len, room) = (root.as_ptr(), root.len(), output.as_mut_ptr());
+    let (ids, text) = (417u32.to_be_bytes(), *b"417");
+    let (ids, text) = (ids.as_ptr(), text.as_ptr());
+    let Pointers {
+        input: p,
+        output: q,
+    } = none;
+    vec![
+        case!(dwarnizza_root_find_many(p, 0, ids, 4, !0, 0, room, 20), [file] => answered(20)),
+        case!(dwarnizza_root_find_many(r, r_len, p, 0, !0, 0, room, 20), [ids] => answered(0)),
+        case!(dwarnizza_root_find_many(r, r_len, p, 0, !0, 0, q, 0), [ids, output] => answered(0)),
+        case!(dwarnizza_root_find_many(r, r_len, ids, 4, !0, 0, q, 0), [output] => refused(13)),
+        case!(dwarnizza_worklist_row(p, 0, 0, 44), [text] => ABSENT),
+        case!(dwarnizza_worklist_field(p, 0, 0, 44, 0), [text] => ABSENT),
+        case!(dwarnizza_worklist_unquoted(p, 0, room, 20), [field] => answered(0)),
+        case!(dwarnizza_worklist_unquoted(p, 0, q, 0), [field, output] => answered(0)),
+        case!(dwarnizza_worklist_unquoted(text, 3, q, 0), [output] => refused(13)),
+        case!(dwarnizza_file_number(p, 0), [text] => (1, 1)),
+    ]
+}
+
 fn cases(none: Pointers) -> Vec<Case> {
     [
         hashing,
@@ -194,6 +218,7 @@ fn cases(none: Pointers) -> Vec<Case> {
         envelopes,
         encodings,
         file_numbers,
+        worklists,
     ]
     .into_iter()
     .flat_map(|cases| cases(none))
