@@ -1,7 +1,7 @@
 //! Root files by the second program.
 
 use second::refusal::{self, Refusal};
-use second::root::{BlockParts, Found, Header, MAGICS, Record, check, find, write};
+use second::root::{BlockParts, Found, Header, MAGICS, Record, check, find, find_many, write};
 
 const ALL: u32 = u32::MAX;
 const NO_NAME_HASHES: u32 = 1 << 13;
@@ -239,4 +239,48 @@ fn masks_and_the_first_match() {
             assert_eq!(key(absent, ALL, 0), None);
         }
     }
+}
+
+/// For each id what is said of it, by the key's bytes.
+fn said(keys: &[Option<u8>]) -> Vec<u8> {
+    let answers = keys.iter().map(|key| {
+        let found = [key.is_some().into(), 0, 0, 0];
+        [&found[..], &[key.unwrap_or(0); 16]].concat()
+    });
+    answers.collect::<Vec<_>>().concat()
+}
+
+#[test]
+fn many_ids() {
+    let blocks = [block(1, 0, 7, &[5, -1, 2]), block(2, 1, 20, &[0, 4, 2])];
+    let file = write(None, &blocks);
+    let ids = [0u32, 5, 5, 6, 8, u32::MAX].map(u32::to_be_bytes).concat();
+    for (locale, unwanted, keys) in [
+        (1, 0, [None, Some(7), Some(7), None, Some(9), None]),
+        (2, 0, [Some(20), Some(21), Some(21), None, Some(22), None]),
+        (3, 0, [Some(20), Some(7), Some(7), None, Some(9), None]),
+        (3, 1, [None, Some(7), Some(7), None, Some(9), None]),
+        (4, 0, [None; 6]),
+    ] {
+        assert_eq!(find_many(&file, &ids, locale, unwanted), Ok(said(&keys)));
+    }
+    assert_eq!(find_many(&file, &[], 1, 0), Ok(vec![]));
+}
+
+#[test]
+fn many_ids_refused() {
+    let file = write(None, &[block(1, 0, 7, &[5])]);
+    let list = |ids: &[u32]| -> Vec<u8> { ids.iter().flat_map(|id| id.to_be_bytes()).collect() };
+    let mut falling = list(&[1, 1, 256, 255, 0]);
+    assert_eq!(
+        find_many(&file, &falling, 1, 0),
+        Err(refusal::list_falls(3))
+    );
+    falling.push(0);
+    assert_eq!(
+        find_many(&file, &falling, 1, 0),
+        Err(refusal::LIST_NOT_WHOLE)
+    );
+    let cut = &file[..file.len() - 1];
+    assert_eq!(find_many(cut, &falling, 1, 0), Err(refusal::block_cut(0)));
 }

@@ -96,7 +96,7 @@ pub struct Tally {
     cases: &'static str,
     pub count: u64,
     passed: u64,
-    refused: [u64; 71],
+    refused: [u64; 162],
 }
 
 impl Tally {
@@ -105,7 +105,7 @@ impl Tally {
             cases,
             count: 0,
             passed: 0,
-            refused: [0; 71],
+            refused: [0; 162],
         }
     }
 

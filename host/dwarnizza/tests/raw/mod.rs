@@ -65,3 +65,56 @@ pub fn find(file: &[u8], id: u32, locale: u32, unwanted: u64) -> Result<Option<R
         place: words[0] as usize,
     }))
 }
+
+/// What is said of many ids, as bytes.
+pub fn find_many(
+    file: &[u8],
+    ids: &[u8],
+    (locale, unwanted): (u32, u64),
+    output: &mut [u8],
+) -> Result<usize, Refusal> {
+    // SAFETY: each pointer and length are those of one slice, and the output overlaps no other.
+    written(|answer| unsafe {
+        ffi::dwarnizza_root_find_many(
+            file.as_ptr(),
+            file.len(),
+            ids.as_ptr(),
+            ids.len(),
+            locale,
+            unwanted,
+            output.as_mut_ptr(),
+            output.len(),
+            answer,
+        )
+    })
+}
+
+/// The words of a row.
+pub fn row(text: &[u8], at: usize, separator: u32) -> Result<Option<[u64; 8]>, Refusal> {
+    let (start, length) = (text.as_ptr(), text.len());
+    // SAFETY: pointer and length are those of one slice.
+    answered(|answer| unsafe { ffi::dwarnizza_worklist_row(start, length, at, separator, answer) })
+}
+
+/// The words of a field.
+pub fn field(
+    text: &[u8],
+    at: usize,
+    separator: u32,
+    column: usize,
+) -> Result<Option<[u64; 8]>, Refusal> {
+    let (start, length) = (text.as_ptr(), text.len());
+    // SAFETY: pointer and length are those of one slice.
+    answered(|answer| unsafe {
+        ffi::dwarnizza_worklist_field(start, length, at, separator, column, answer)
+    })
+}
+
+/// The bytes that a field stands for.
+pub fn unquoted(field: &[u8], output: &mut [u8]) -> Result<usize, Refusal> {
+    let (room, length) = (output.as_mut_ptr(), output.len());
+    // SAFETY: each pointer and length are those of one slice, and the slices do not overlap.
+    written(|answer| unsafe {
+        ffi::dwarnizza_worklist_unquoted(field.as_ptr(), field.len(), room, length, answer)
+    })
+}

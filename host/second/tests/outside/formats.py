@@ -5,9 +5,14 @@
     formats.py envelope S .. < chunks  the envelope of chunks of these sizes, after its key
     formats.py encoding < file         a line for each page and each entry
     formats.py root < file             a line for each record
+    formats.py csv < seed              texts by csv.writer, each with a line for each row's fields
 """
 
+import csv
 import hashlib
+import io
+import itertools
+import random
 import struct
 import sys
 
@@ -100,6 +105,27 @@ def root(data):
             yield f"{file_id} {locale} {content_flags} {key.hex()}"
 
 
+def csv_texts(data):
+    choose = random.Random(int(data))
+    quotings = csv.QUOTE_MINIMAL, csv.QUOTE_ALL, csv.QUOTE_NONNUMERIC
+    for delimiter, end, quoting in itertools.product(",;\t|", ("\n", "\r\n", "\r"), quotings):
+        # Before Python 3.13 a field is not quoted for a line end that the dialect has not.
+        line_ends = end if quoting == csv.QUOTE_MINIMAL else "\r\n"
+        for _ in range(50):
+            rows = [csv_row(choose, line_ends) for _ in range(choose.randrange(6))]
+            text = io.StringIO(newline="")
+            csv.writer(text, delimiter=delimiter, lineterminator=end, quoting=quoting).writerows(rows)
+            yield f"text {ord(delimiter)} {text.getvalue().encode().hex()}"
+            for row in rows:
+                yield "row " + ",".join(str(field).encode().hex() for field in row)
+
+
+def csv_row(choose, line_ends):
+    signs = 'ab1 ,;\t|"""\u00e9' + line_ends
+    texts = ["".join(choose.choices(signs, k=choose.randrange(6))) for _ in range(choose.randrange(1, 5))]
+    return [choose.choice([text, text, choose.randrange(2**32)]) for text in texts]
+
+
 def main(command, *numbers):
     data = sys.stdin.buffer.read()
     numbers = [int(number) for number in numbers]
@@ -111,7 +137,8 @@ def main(command, *numbers):
         for length in [*range(301), len(data)]:
             print(md5(data[:length]).hex())
     else:
-        print("\n".join({"encoding": encoding, "root": root}[command](data)))
+        lines = {"csv": csv_texts, "encoding": encoding, "root": root}[command]
+        print("\n".join(lines(data)))
 
 
 main(*sys.argv[1:])
