@@ -10,7 +10,6 @@ use dwarnizza::{Reason, Refusal, Root};
 use forge::for_files_of;
 use forge::root::{KINDS, RootFile, random_masks};
 use random::Random;
-use second::refusal::OUTPUT_TOO_SHORT;
 use second::root::{BlockParts, Record};
 
 /// How many bytes are written for each id.
@@ -27,12 +26,8 @@ fn compare(file: &[u8], ids: &[u8], masks: (u32, u64), room: usize) -> Result<Ve
         room,
         |output| raw::find_many(file, ids, masks, output),
         |output| {
-            let found = second::root::find_many(file, ids, masks.0, masks.1);
-            let found = found.map_err(in_library_terms)?;
-            let start = output.get_mut(..found.len());
-            let start = start.ok_or(in_library_terms(OUTPUT_TOO_SHORT))?;
-            start.copy_from_slice(&found);
-            Ok(found.len())
+            let written = second::root::find_many_into(file, ids, masks, output);
+            written.map_err(in_library_terms)
         },
     )
 }

@@ -8,7 +8,6 @@ use compare::{compare_outputs, in_library_terms, refusal_at, room};
 use dwarnizza::worklist::{Malformed, Row};
 use dwarnizza::{Reason, Worklist};
 use random::Random;
-use second::refusal::OUTPUT_TOO_SHORT;
 use second::worklist::Field;
 
 const COMMA: u8 = b',';
@@ -216,13 +215,7 @@ fn compare_unquoted(field: &[u8], room: usize) {
     let told = compare_outputs(
         room,
         |output| raw::unquoted(field, output),
-        |output| {
-            let content = second::worklist::unquoted(field);
-            let start = output.get_mut(..content.len());
-            let start = start.ok_or(in_library_terms(OUTPUT_TOO_SHORT))?;
-            start.copy_from_slice(&content);
-            Ok(content.len())
-        },
+        |output| second::worklist::unquoted_into(field, output).map_err(in_library_terms),
     );
     assert!(told.is_ok() || room < field.len());
 }

@@ -8,6 +8,7 @@ mod key_text;
 mod list;
 mod md5;
 mod root;
+mod worklist;
 
 use crate::compare::{Comparison, Difference};
 use crate::random::Random;
@@ -19,16 +20,18 @@ type Compared = Result<(), Box<Difference>>;
 type Kind = fn(&mut Random, &mut Comparison) -> Compared;
 
 /// Each kind, and how many of a hundred cases are of it.
-const KINDS: [(usize, Kind); 9] = [
-    (24, index::compare),
-    (12, list::compare_written),
+const KINDS: [(usize, Kind); 11] = [
+    (22, index::compare),
+    (10, list::compare_written),
     (6, list::compare_entry),
     (10, envelope::compare),
     (14, encoding::compare),
-    (12, root::compare),
-    (12, chain::compare),
-    (5, md5::compare),
-    (5, key_text::compare),
+    (11, root::compare),
+    (11, chain::compare),
+    (4, md5::compare),
+    (4, key_text::compare),
+    (6, worklist::compare),
+    (2, worklist::compare_number),
 ];
 
 /// Makes the case of this number.

@@ -6,7 +6,7 @@ use std::ptr;
 use crate::export::{ABSENT, ALL, ANSWERED, Export, Said};
 
 /// The highest number of refusal.
-const HIGHEST: usize = 70;
+const HIGHEST: usize = 161;
 
 /// How many numbers stand in a line of the table of refusals.
 const NUMBERS_IN_LINE: usize = 4;

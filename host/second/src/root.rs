@@ -5,7 +5,7 @@ mod many;
 mod write;
 
 pub use layout::MAGICS;
-pub use many::find_many;
+pub use many::{find_many, find_many_into};
 pub use write::{BlockParts, Header, Record, write};
 
 use std::iter;

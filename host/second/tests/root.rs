@@ -1,7 +1,9 @@
 //! Root files by the second program.
 
 use second::refusal::{self, Refusal};
-use second::root::{BlockParts, Found, Header, MAGICS, Record, check, find, find_many, write};
+use second::root::{
+    BlockParts, Found, Header, MAGICS, Record, check, find, find_many, find_many_into, write,
+};
 
 const ALL: u32 = u32::MAX;
 const NO_NAME_HASHES: u32 = 1 << 13;
@@ -265,12 +267,17 @@ fn many_ids() {
         assert_eq!(find_many(&file, &ids, locale, unwanted), Ok(said(&keys)));
     }
     assert_eq!(find_many(&file, &[], 1, 0), Ok(vec![]));
+    let mut output = [0xee; 121];
+    assert_eq!(find_many_into(&file, &ids, (4, 0), &mut output), Ok(120));
+    assert_eq!(output, *[&said(&[None; 6])[..], &[0xee]].concat());
 }
 
 #[test]
 fn many_ids_refused() {
     let file = write(None, &[block(1, 0, 7, &[5])]);
     let list = |ids: &[u32]| -> Vec<u8> { ids.iter().flat_map(|id| id.to_be_bytes()).collect() };
+    let short = find_many_into(&file, &list(&[5]), (1, 0), &mut [0; 19]);
+    assert_eq!(short, Err(refusal::OUTPUT_TOO_SHORT));
     let mut falling = list(&[1, 1, 256, 255, 0]);
     assert_eq!(
         find_many(&file, &falling, 1, 0),

@@ -1,7 +1,7 @@
 //! Worklists by the second program.
 
 use second::refusal;
-use second::worklist::{Field, Row, field, row, unquoted};
+use second::worklist::{Field, Row, field, row, unquoted, unquoted_into};
 
 const COMMA: u32 = b',' as u32;
 
@@ -90,4 +90,16 @@ fn contents() {
     ] {
         assert_eq!(unquoted(whole), whole);
     }
+}
+
+#[test]
+fn contents_into_an_output() {
+    let mut output = [0xee; 4];
+    assert_eq!(unquoted_into(b"\"a\"\"b\"", &mut output), Ok(3));
+    assert_eq!(output, *b"a\"b\xee");
+    assert_eq!(
+        unquoted_into(b"abcde", &mut output),
+        Err(refusal::OUTPUT_TOO_SHORT)
+    );
+    assert_eq!(output, *b"a\"b\xee");
 }

@@ -3,8 +3,8 @@
 use super::Compared;
 use crate::build::{Root, flags};
 use crate::compare::{Comparison, Output};
-use crate::damage::damage;
-use crate::export::{Given, ROOT_CHECK, ROOT_FIND};
+use crate::damage::{damage, room};
+use crate::export::{Given, ROOT_CHECK, ROOT_FIND, ROOT_FIND_MANY};
 use crate::random::Random;
 
 pub fn compare(random: &mut Random, comparison: &mut Comparison) -> Compared {
@@ -16,7 +16,28 @@ pub fn compare(random: &mut Random, comparison: &mut Comparison) -> Compared {
         let given = Given::new([&file], wanted(random, &root.ids));
         comparison.call(&ROOT_FIND, &given, Output::Bytes(16))?;
     }
+    let ids = list(random, &root.ids);
+    let [_, locale, unwanted] = wanted(random, &root.ids);
+    let given = Given::new([&file, &ids], [locale, unwanted]);
+    let length = room(20 * (ids.len() / 4), random);
+    comparison.call(&ROOT_FIND_MANY, &given, Output::Bytes(length))?;
     Ok(())
+}
+
+/// A list of ids that rises, with equal neighbours; rarely one that falls, or that is not whole.
+fn list(random: &mut Random, ids: &[u32]) -> Vec<u8> {
+    let count = random.pick(&[0, 1, 2, 5, 9, 30]);
+    let mut sought: Vec<_> = (0..count).map(|_| wanted(random, ids)[0] as u32).collect();
+    sought.sort_unstable();
+    if count > 1 && random.one_in(6) {
+        let (one, other) = (random.within(0..=count - 1), random.within(0..=count - 1));
+        sought.swap(one, other);
+    }
+    let mut list: Vec<u8> = sought.iter().flat_map(|id| id.to_be_bytes()).collect();
+    if random.one_in(12) {
+        list.truncate(list.len().saturating_sub(random.within(1..=3)));
+    }
+    list
 }
 
 /// Id, locale mask and mask of unwanted content: mostly such that something is found.

@@ -2,15 +2,16 @@
 
 use dwarnizza_sys as sys;
 use second::chain::{Build, Link, Refused, Resolved};
+use second::file_number::{Fault, NotFileNumber, file_number};
 use second::index::{FOOTER, Settings};
-use second::{chain, encoding, envelope, index, key, md5, root};
+use second::{chain, encoding, envelope, index, key, md5, root, worklist};
 
 use super::library::{Function, State, bytes_16};
 use super::second_program::{Said, lookup, part, place_in_archive, settings};
 use super::{Export, Given};
 
 /// All of them.
-pub static ALL: [&Export; 28] = [
+pub static ALL: [&Export; 33] = [
     &MD5,
     &MD5_START,
     &MD5_UPDATE,
@@ -37,8 +38,13 @@ pub static ALL: [&Export; 28] = [
     &ENCODING_SPEC,
     &ROOT_CHECK,
     &ROOT_FIND,
+    &ROOT_FIND_MANY,
     &RESOLVE,
     &KEY_TEXT,
+    &WORKLIST_ROW,
+    &WORKLIST_FIELD,
+    &WORKLIST_UNQUOTED,
+    &FILE_NUMBER,
 ];
 
 /// MD5 in one call.
@@ -473,6 +479,35 @@ pub static ROOT_FIND: Export = Export {
     refusals: &[40..=44],
 };
 
+/// The content keys of many ids.
+pub static ROOT_FIND_MANY: Export = Export {
+    name: "dwarnizza_root_find_many",
+    inputs: &["root", "ids"],
+    numbers: &["locale", "unwanted"],
+    // SAFETY: file and ids are slices, and the output is lent.
+    library: Function::Other(|given, lent| unsafe {
+        let ((file, file_len), (ids, ids_len)) = (given.lent(0), given.lent(1));
+        let [locale, unwanted, ..] = given.numbers;
+        sys::dwarnizza_root_find_many(
+            file,
+            file_len,
+            ids,
+            ids_len,
+            locale as u32,
+            unwanted,
+            lent.output,
+            lent.length,
+            &mut *lent.answer,
+        )
+    }),
+    second: |given, output| {
+        let ([file, ids, _], [locale, unwanted, ..]) = (given.bytes, given.numbers);
+        let masks = (locale as u32, unwanted);
+        Said::of_length(root::find_many_into(file, ids, masks, output))
+    },
+    refusals: &[12..=13, 40..=44, 161..=161],
+};
+
 /// The chain.
 pub static RESOLVE: Export = Export {
     name: "dwarnizza_resolve",
@@ -533,6 +568,81 @@ pub static KEY_TEXT: Export = Export {
     refusals: &[11..=11, 60..=61],
 };
 
+/// A row of a worklist.
+pub static WORKLIST_ROW: Export = Export {
+    name: "dwarnizza_worklist_row",
+    inputs: &["text"],
+    numbers: &["at", "separator"],
+    // SAFETY: the text is a slice.
+    library: Function::Other(|given, lent| unsafe {
+        let ((text, text_len), (at, separator)) = (given.lent(0), row_of(given));
+        sys::dwarnizza_worklist_row(text, text_len, at, separator, &mut *lent.answer)
+    }),
+    second: |given, _| {
+        let (at, separator) = row_of(given);
+        Said::of_found(worklist::row(given.bytes[0], at, separator), |row| {
+            let (fields, malformed, place) = match row.fields {
+                Ok(fields) => (fields.len(), 0, 0),
+                Err(place) => (0, 1, place),
+            };
+            [row.end, row.next, fields, malformed, place].map(|word| word as u64)
+        })
+    },
+    refusals: &[11..=11],
+};
+
+/// A field of a row.
+pub static WORKLIST_FIELD: Export = Export {
+    name: "dwarnizza_worklist_field",
+    inputs: &["text"],
+    numbers: &["at", "separator", "column"],
+    // SAFETY: the text is a slice.
+    library: Function::Other(|given, lent| unsafe {
+        let ((text, text_len), (at, separator)) = (given.lent(0), row_of(given));
+        let (column, answer) = (given.numbers[2] as usize, &mut *lent.answer);
+        sys::dwarnizza_worklist_field(text, text_len, at, separator, column, answer)
+    }),
+    second: |given, _| {
+        let ((at, separator), column) = (row_of(given), given.numbers[2] as usize);
+        let told = worklist::field(given.bytes[0], at, separator, column);
+        Said::of_found(told, |field| {
+            [field.place as u64, field.length as u64, field.quoted.into()]
+        })
+    },
+    refusals: &[11..=11],
+};
+
+/// The bytes that a field stands for.
+pub static WORKLIST_UNQUOTED: Export = Export {
+    name: "dwarnizza_worklist_unquoted",
+    inputs: &["field"],
+    numbers: &[],
+    library: Function::FileToOutput(sys::dwarnizza_worklist_unquoted),
+    second: |given, output| Said::of_length(worklist::unquoted_into(given.bytes[0], output)),
+    refusals: &[13..=13],
+};
+
+/// The file number of a text.
+pub static FILE_NUMBER: Export = Export {
+    name: "dwarnizza_file_number",
+    inputs: &["text"],
+    numbers: &[],
+    library: Function::File(sys::dwarnizza_file_number),
+    second: |given, _| match file_number(given.bytes[0]) {
+        Ok(number) => Said::answered([number.into()]),
+        Err(NotFileNumber { fault, place }) => {
+            let fault = match fault {
+                Fault::Empty => 1,
+                Fault::LeadingZero => 2,
+                Fault::NoDigit => 3,
+                Fault::TooGreat => 4,
+            };
+            Said::absent([fault, place as u64])
+        }
+    },
+    refusals: &[],
+};
+
 const SETTINGS: &[&str] = &["version", "W", "K"];
 
 const WANTED: &[&str] = &["id", "locale", "unwanted"];
@@ -551,6 +661,12 @@ fn given_settings(given: &Given) -> Settings {
 fn wanted(given: &Given) -> (u32, u32, u64) {
     let [id, locale, unwanted, ..] = given.numbers;
     (id as u32, locale as u32, unwanted)
+}
+
+/// Where a row begins, and the separator.
+fn row_of(given: &Given) -> (usize, u32) {
+    let [at, separator, ..] = given.numbers;
+    (at as usize, separator as u32)
 }
 
 fn resolved(told: Result<Resolved, Refused>) -> Said {

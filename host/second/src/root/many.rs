@@ -29,6 +29,21 @@ pub fn find_many(file: &[u8], ids: &[u8], locale: u32, unwanted: u64) -> Result<
     Ok(answers)
 }
 
+/// Writes the same into the output, and gives its length; refuses as `find_many` does, then with 13.
+pub fn find_many_into(
+    file: &[u8],
+    ids: &[u8],
+    (locale, unwanted): (u32, u64),
+    output: &mut [u8],
+) -> Result<usize, Refusal> {
+    let answers = find_many(file, ids, locale, unwanted)?;
+    output
+        .get_mut(..answers.len())
+        .ok_or(refusal::OUTPUT_TOO_SHORT)?
+        .copy_from_slice(&answers);
+    Ok(answers.len())
+}
+
 /// The content key of every id, by its first record in the blocks that count.
 fn keys(file: &[u8], locale: u32, unwanted: u64) -> Result<HashMap<u32, [u8; KEY]>, Refusal> {
     let mut keys = HashMap::new();
