@@ -34,15 +34,22 @@ pub fn each_file(
     Ok(())
 }
 
-/// The first operand, which is a file, and what is sought in it.
+/// The first operand, which is a file, and those behind it.
+pub fn first_and_rest(arguments: &Arguments) -> Result<(&OsStr, &[OsString]), Failure> {
+    match &arguments.operands[..] {
+        [] => Err(Failure::usage("a file is missing")),
+        [name, rest @ ..] => Ok((name, rest)),
+    }
+}
+
+/// The same, where something must be sought in the file.
 pub fn file_and_sought<'a>(
     arguments: &'a Arguments,
     what: &str,
 ) -> Result<(&'a OsStr, &'a [OsString]), Failure> {
-    match &arguments.operands[..] {
-        [] => Err(Failure::usage("a file is missing")),
-        [_] => Err(Failure::usage(format!("{what} is missing"))),
-        [name, texts @ ..] => Ok((name, texts)),
+    match first_and_rest(arguments)? {
+        (_, []) => Err(Failure::usage(format!("{what} is missing"))),
+        some => Ok(some),
     }
 }
 

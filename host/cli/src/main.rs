@@ -3,12 +3,16 @@
 #![forbid(unsafe_code)]
 
 mod answers;
+mod batch;
 mod blte;
 mod command;
 mod encoding;
+mod file_number;
 mod files;
 mod index;
 mod input;
+mod key_text;
+mod looks;
 mod masks;
 mod md5;
 mod name;

@@ -8,10 +8,10 @@ use dwarnizza::Md5;
 
 use crate::command::{Arguments, Choice, Command};
 use crate::input::{open, read};
+use crate::key_text;
 use crate::name::{hex, shown};
 use crate::output::Output;
 use crate::status::{Failure, Status};
-use crate::worklist;
 
 const CHECK: Choice = Choice {
     name: "-c",
@@ -113,7 +113,7 @@ fn parse(line: &[u8]) -> Option<(Vec<u8>, OsString)> {
     let plain = line.strip_prefix(b"\\");
     let (digest, rest) = plain.unwrap_or(line).split_at_checked(32)?;
     let name = rest.strip_prefix(b"  ").or(rest.strip_prefix(b" *"))?;
-    let digest = worklist::key(digest, 16).ok()?.as_bytes().to_vec();
+    let digest = key_text::key(digest, 16).ok()?.as_bytes().to_vec();
     let name = match plain {
         Some(_) => unescaped(name)?,
         None => name.to_vec(),
@@ -141,7 +141,7 @@ fn unescaped(name: &[u8]) -> Option<Vec<u8>> {
             b'x' => {
                 let (digits, after) = rest.split_at_checked(2)?;
                 rest = after;
-                worklist::key(digits, 1).ok()?.as_bytes()[0]
+                key_text::key(digits, 1).ok()?.as_bytes()[0]
             }
             _ => return None,
         });

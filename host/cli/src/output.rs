@@ -13,7 +13,7 @@ use std::time::{Duration, Instant};
 use crate::name::shown;
 use crate::status::{Failure, Status};
 
-/// How long a progress line stays.
+/// How long a progress line stays, and how long an answer may wait to be written.
 const PROGRESS: Duration = Duration::from_millis(100);
 
 /// A value of a field.
@@ -44,6 +44,8 @@ pub struct Output {
     broken: bool,
     /// When the progress line that stands there was said.
     progress: Option<Instant>,
+    /// When the answers were written last.
+    flushed: Instant,
 }
 
 impl Output {
@@ -58,6 +60,7 @@ impl Output {
             status: Status::Answered,
             broken: false,
             progress: None,
+            flushed: Instant::now(),
         }
     }
 
@@ -123,10 +126,22 @@ impl Output {
     /// Puts bytes on standard output as they are.
     pub fn bytes(&mut self, bytes: &[u8]) -> Result<(), Failure> {
         self.erase_progress();
-        let mut written = self.answers.write_all(bytes);
-        if self.immediate && written.is_ok() {
-            written = self.answers.flush();
+        let written = self.answers.write_all(bytes);
+        self.judge_output(written)?;
+        if self.immediate || self.flushed.elapsed() >= PROGRESS {
+            return self.flush();
         }
+        Ok(())
+    }
+
+    /// Writes the answers that were said so far, so that a run that is ended has said them.
+    pub fn flush(&mut self) -> Result<(), Failure> {
+        let written = self.answers.flush();
+        self.flushed = Instant::now();
+        self.judge_output(written)
+    }
+
+    fn judge_output(&mut self, written: io::Result<()>) -> Result<(), Failure> {
         written.map_err(|error| {
             self.broken = true;
             Failure::output(&error)
@@ -146,17 +161,29 @@ impl Output {
         }
     }
 
-    /// Shows on a terminal how many of all files are done, at most ten times a second; the last
-    /// one takes the line away.
+    /// Shows on a terminal what is being done, until something is said.
+    pub fn phase(&mut self, words: &str) {
+        if self.terminal {
+            self.erase_progress();
+            self.error_bytes(words.as_bytes());
+            self.progress = Some(Instant::now());
+        }
+    }
+
+    /// Shows on a terminal how many of all files are done.
     pub fn progress(&mut self, done: usize, all: usize) {
+        self.progress_of("indexes", done, all);
+    }
+
+    /// The same of other things, at most ten times a second; the last one takes the line away.
+    pub fn progress_of(&mut self, what: &str, done: usize, all: usize) {
         let recent = |said: Instant| said.elapsed() < PROGRESS;
         if !self.terminal || all < 2 || (done < all && self.progress.is_some_and(recent)) {
             return;
         }
         self.erase_progress();
         if done < all {
-            self.error_bytes(format!("{done} of {all} indexes").as_bytes());
-            self.progress = Some(Instant::now());
+            self.phase(&format!("{done} of {all} {what}"));
         }
     }
 

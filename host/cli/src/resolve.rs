@@ -1,19 +1,21 @@
 //! `dwarnizza resolve`: from file numbers to their places in archives.
 
-use std::collections::HashSet;
-use std::ffi::{OsStr, OsString};
+use std::ffi::OsStr;
 
-use dwarnizza::{CheckedEncoding, CheckedRoot, Encoding, Key, Reason, Refusal, Root};
+use dwarnizza::{CheckedEncoding, Encoding, Key, Reason, Refusal, Root};
 
+use crate::batch::{Answer, Batch, Teller};
 use crate::command::{Arguments, Choice, Command};
+use crate::file_number::file_number;
 use crate::files;
 use crate::index::search::{Before, INDEX, Searched, index_names, search};
 use crate::masks::{LOCALE, Masks, WITHOUT};
-use crate::name::{hex, shown_bytes};
-use crate::output::{Field, Output};
+use crate::name::hex;
+use crate::output::Output;
 use crate::parallel;
-use crate::status::{Failure, Status};
-use crate::worklist::{COLUMN, Tally, WORKLIST, Worklist, file_number};
+use crate::root::find::NAMES;
+use crate::status::Failure;
+use crate::worklist::{self, COLUMN, COLUMN_NAME, HEADER, SEPARATOR, WORKLIST, worklist_help};
 
 const ROOT: Choice = Choice {
     name: "--root",
@@ -40,220 +42,187 @@ pub const COMMAND: Command = Command {
         WITHOUT,
         WORKLIST,
         COLUMN,
+        COLUMN_NAME,
+        HEADER,
+        SEPARATOR,
     ],
-    help: "\
+    help: concat!(
+        "\
 Lines, in the order of the file numbers; ROW is the worklist's row, - for a NUMBER that was an operand:
   found NUMBER CONTENT-KEY KEY SIZE ARCHIVE OFFSET INDEX ROW
       KEY is the first encoding key; INDEX is the first that has it; ARCHIVE is - but with offset
       width 6, and the archive then has the name of the index
   absent NUMBER LINK ROW
       LINK is the first that has no entry: root, encoding or index
+  unknown NUMBER index ROW
+      no index has it, but one was refused or could not be read, and may have it
   refused TEXT ROW
-      no file number: decimal digits without a leading zero, up to 4294967295
+      no file number, which is decimal digits without a leading zero, up to 4294967295; or a row that
+      has none
 All files are checked whole first. An index that is refused or cannot be read has a line
-`refused FILE NUMBER PLACE` or `failed FILE` before them, and the others are searched; a root file
-or encoding file has such a line alone.
+`refused FILE NUMBER PLACE` or `failed FILE` before the lines that were not known until then, and the
+others are searched; a root file or encoding file has such a line alone.
 
-A worklist is a CSV file, or a TSV file where its first row has a tab; --column says which column.
-`dwarnizza index find --help` tells more of worklists.",
+",
+        worklist_help!()
+    ),
     run,
 };
 
 fn run(arguments: &Arguments, output: &mut Output) -> Result<(), Failure> {
     let masks = Masks::of(arguments)?;
-    let worklist = Worklist::from_arguments(arguments)?;
-    let sought = sought(arguments, worklist.as_ref());
-    if sought.is_empty() && worklist.is_none() {
-        return Err(Failure::usage("a file number is missing"));
-    }
+    let file = worklist::File::from_arguments(arguments, output)?;
+    let batch = Batch::new(NAMES, &arguments.operands, file.as_ref())?;
     let named = |option: Choice| {
         let missing = || Failure::usage(format!("{} is missing", option.name));
         arguments.value(option.name).ok_or_else(missing)
     };
     let (root, encoding) = (named(ROOT)?, named(ENCODING)?);
     let names = index_names(arguments)?;
-    let keys = keys(&sought, root, encoding, masks)?;
-    let sought_keys = keys.iter().map(|key| match key {
-        Ok(Link::Encoding { key, .. }) => Some(*key),
-        _ => None,
-    });
-    let Searched { found, key_lengths } = search(&names, sought_keys, Before::FullCheck, output)?;
-    if key_lengths.is_empty() {
-        return Ok(());
-    }
-    let answers = keys.into_iter().zip(found);
-    let answers = answers.map(|(key, place)| resolved(key?, place, &key_lengths));
-    say_all(sought.iter().zip(answers), worklist.is_some(), output)
-}
-
-/// What is sought.
-struct Sought<'a> {
-    /// The text; none where a row has none.
-    text: Option<&'a [u8]>,
-    /// The file number that it is, or why it is none.
-    number: Result<u32, String>,
-    /// The row of the worklist.
-    row: Option<usize>,
-}
-
-/// The file numbers of the operands, then those of the worklist.
-fn sought<'a>(arguments: &'a Arguments, worklist: Option<&'a Worklist>) -> Vec<Sought<'a>> {
-    let operands = arguments.operands.iter().map(|text| {
-        let text = text.as_encoded_bytes();
-        Sought {
-            text: Some(text),
-            number: file_number(text),
-            row: None,
-        }
-    });
-    let rows = worklist.iter().flat_map(|worklist| {
-        worklist.rows.iter().map(|row| {
-            let number = row.text.as_ref().map_err(String::clone);
-            let number = number.and_then(|text| file_number(text));
-            Sought {
-                text: row.text.as_deref().ok(),
-                number: number.map_err(|why| format!("{}: {why}", worklist.place(row.number))),
-                row: Some(row.number),
-            }
+    let contents = contents(&batch, root, masks, output)?;
+    let links = links(contents, encoding, output)?;
+    let mut teller = Teller::new(&batch);
+    teller.tell(output, |number, text| before_index(&links[number], text))?;
+    let keys: Vec<_> = links.iter().map(Link::key).collect();
+    let searched = search(&names, &keys, Before::FullCheck, output, |found, output| {
+        teller.tell(output, |number, text| {
+            in_index(&links, found, number).or_else(|| before_index(&links[number], text))
         })
-    });
-    operands.chain(rows).collect()
+    })?;
+    teller.tell(output, |number, text| {
+        let answer = in_index(&links, &searched, number);
+        let answer = answer.or_else(|| before_index(&links[number], text));
+        answer.or_else(|| Some(in_no_index(&links[number], &searched)))
+    })?;
+    teller.end(output)
 }
 
 /// How far a file number was followed in root file and encoding file.
 enum Link {
-    /// To the link that has no entry of it.
-    Absent(&'static str),
+    /// The root file has no entry of it, or it is no file number.
+    Root,
+    /// The encoding file has no entry of it.
+    Encoding,
     /// To its encoding key.
-    Encoding { content_key: [u8; 16], key: Key },
+    Key {
+        content: [u8; 16],
+        key: Key,
+    },
+    Refused(Failure),
 }
 
-/// The place of a file, or the link that has no entry of it.
-enum Resolved {
-    Found(Vec<Field>),
-    Absent(&'static str),
+impl Link {
+    fn key(&self) -> Option<Key> {
+        match self {
+            Self::Key { key, .. } => Some(*key),
+            _ => None,
+        }
+    }
 }
 
-/// The encoding key of each file number, by these files.
-fn keys(
-    sought: &[Sought],
-    root_name: &OsStr,
-    encoding_name: &OsStr,
+/// The content key of each file number, by the root file.
+fn contents(
+    batch: &Batch<'_>,
+    name: &OsStr,
     masks: Masks,
-) -> Result<Vec<Result<Link, Failure>>, Failure> {
-    let file = crate::root::read(root_name)?;
-    let root =
-        Root::check(&file).map_err(|refusal| crate::root::refused(root_name, refusal, &file))?;
-    let file = crate::encoding::read(encoding_name)?;
-    let refused = |refusal| crate::encoding::refused(encoding_name, refusal, &file);
+    output: &mut Output,
+) -> Result<Vec<Option<[u8; 16]>>, Failure> {
+    output.phase("reading the root file");
+    let file = crate::root::read(name)?;
+    let refused = |refusal| crate::root::refused(name, refusal, &file);
+    let root = Root::check(&file).map_err(refused)?;
+    output.phase("searching the root file");
+    let texts = batch.sought.iter().map(|sought| sought.text());
+    Ok(crate::root::many(root, texts, masks))
+}
+
+/// How many content keys are looked up before the progress is shown.
+const PART: usize = 1024;
+
+/// Follows each content key through the encoding file.
+fn links(
+    contents: Vec<Option<[u8; 16]>>,
+    name: &OsStr,
+    output: &mut Output,
+) -> Result<Vec<Link>, Failure> {
+    output.phase("reading the encoding file");
+    let file = crate::encoding::read(name)?;
+    let refused = |refusal| crate::encoding::refused(name, refusal, &file);
     let encoding = Encoding::check(&file).map_err(refused)?;
-    let mut keys = Vec::new();
+    output.phase("searching the encoding file");
+    let mut links = Vec::new();
+    let parts: Vec<_> = contents.chunks(PART).collect();
     parallel::each(
-        sought,
-        |sought| {
-            let number = sought.number.clone().map_err(Failure::unfit)?;
-            follow(number, masks, root, encoding).map_err(refused)
+        &parts,
+        |part| {
+            let links = part.iter().map(|content| match content {
+                Some(content) => follow(encoding, *content)
+                    .unwrap_or_else(|refusal| Link::Refused(refused(refusal))),
+                None => Link::Root,
+            });
+            links.collect::<Vec<_>>()
         },
-        |_, key| {
-            keys.push(key);
+        |_, part| {
+            links.extend(part);
+            output.progress_of("keys in the encoding file", links.len(), contents.len());
             Ok(())
         },
     )?;
-    Ok(keys)
+    Ok(links)
 }
 
-/// Follows a file number through root file and encoding file; the encoding file may refuse.
-fn follow(
-    number: u32,
-    masks: Masks,
-    root: CheckedRoot<'_>,
-    encoding: CheckedEncoding<'_>,
-) -> Result<Link, Refusal> {
-    let Some(record) = root.find(number, masks.locale, masks.unwanted) else {
-        return Ok(Link::Absent("root"));
+/// Follows a content key through the encoding file, which may refuse its length.
+fn follow(encoding: CheckedEncoding<'_>, content: [u8; 16]) -> Result<Link, Refusal> {
+    let Some(entry) = encoding.find_content(content)? else {
+        return Ok(Link::Encoding);
     };
-    let Some(content) = encoding.find_content(record.key)? else {
-        return Ok(Link::Absent("encoding"));
-    };
-    let key = content.keys().next().and_then(Key::from_bytes);
-    Ok(Link::Encoding {
-        content_key: record.key,
+    let key = entry.keys().next().and_then(Key::from_bytes);
+    Ok(Link::Key {
+        content,
         key: key.expect("an entry has one key at least, of 1 to 16 bytes"),
     })
 }
 
-/// What is known of a file after the indexes were searched: this is what they have of its key. An
-/// index whose keys have another length counts where no index has the key.
-fn resolved(
-    link: Link,
-    place: Option<Vec<Field>>,
-    key_lengths: &[(u8, OsString)],
-) -> Result<Resolved, Failure> {
-    let (content_key, key) = match link {
-        Link::Absent(link) => return Ok(Resolved::Absent(link)),
-        Link::Encoding { content_key, key } => (content_key, key),
-    };
-    if let Some(place) = place {
-        let mut fields = vec![("content_key", hex(&content_key).into())];
-        fields.extend(place);
-        return Ok(Resolved::Found(fields));
+/// What is known of a file before the indexes are searched.
+fn before_index(link: &Link, text: &[u8]) -> Option<Answer> {
+    match (link, file_number(text)) {
+        (_, Err(why)) => Some(Answer::Refused(Failure::unfit(why))),
+        (Link::Root, Ok(_)) => Some(absent("root")),
+        (Link::Encoding, Ok(_)) => Some(absent("encoding")),
+        (Link::Refused(failure), Ok(_)) => Some(Answer::Refused(failure.clone())),
+        (Link::Key { .. }, Ok(_)) => None,
     }
-    let length = key.as_bytes().len();
-    let mut lengths = key_lengths.iter();
+}
+
+fn absent(link: &'static str) -> Answer {
+    Answer::Absent(vec![("link", link.into())])
+}
+
+/// What is known of a file whose key an index has.
+fn in_index(links: &[Link], searched: &Searched<'_>, number: usize) -> Option<Answer> {
+    let Link::Key { content, key } = &links[number] else {
+        return None;
+    };
+    let place = searched.fields(number)?;
+    let mut fields = vec![
+        ("content_key", hex(content).into()),
+        ("key", hex(key.as_bytes()).into()),
+    ];
+    fields.extend(place);
+    Some(Answer::Found(fields))
+}
+
+/// What is answered where no index has the key of a file. An index whose keys have another length
+/// cannot say that it is absent.
+fn in_no_index(link: &Link, searched: &Searched<'_>) -> Answer {
+    let length = link.key().map_or(0, |key| key.as_bytes().len());
+    let mut lengths = searched.key_lengths.iter();
     match lengths.find(|(other, _)| usize::from(*other) != length) {
         Some((_, index)) => {
             let refusal = Refusal::new(Reason::IndexKeyLength, 0);
-            Err(Failure::refused(index, refusal, ""))
+            Answer::Refused(Failure::refused(index, refusal, ""))
         }
-        None => Ok(Resolved::Absent("index")),
-    }
-}
-
-/// Says each answer, and the count of rows.
-fn say_all<'a>(
-    answers: impl Iterator<Item = (&'a Sought<'a>, Result<Resolved, Failure>)>,
-    rows: bool,
-    output: &mut Output,
-) -> Result<(), Failure> {
-    let mut tally = Tally::default();
-    let mut seen = HashSet::new();
-    for (sought, resolved) in answers {
-        let answer = say(sought, resolved, output)?;
-        if sought.row.is_some() {
-            tally.count(answer);
-            let text = sought.text;
-            tally.duplicate += usize::from(text.is_some_and(|text| !seen.insert(text)));
-        }
-    }
-    if rows { tally.say(output) } else { Ok(()) }
-}
-
-/// Says one answer, and which it was.
-fn say(
-    sought: &Sought,
-    resolved: Result<Resolved, Failure>,
-    output: &mut Output,
-) -> Result<Status, Failure> {
-    let text = shown_bytes(sought.text.unwrap_or_default());
-    let mut fields: Vec<Field> = vec![("file_number", text.into())];
-    let row = ("row", sought.row.into());
-    match resolved {
-        Ok(Resolved::Found(place)) => {
-            fields.extend(place);
-            fields.push(row);
-            output.answer("found", &fields)?;
-            Ok(Status::Answered)
-        }
-        Ok(Resolved::Absent(link)) => {
-            fields.extend([("link", link.into()), row]);
-            output.answer("absent", &fields)?;
-            output.note(Status::Absent);
-            Ok(Status::Absent)
-        }
-        Err(failure) => {
-            fields.push(row);
-            output.failed(fields, &failure)?;
-            Ok(failure.status)
-        }
+        None if searched.incomplete => Answer::Unknown(vec![("link", "index".into())]),
+        None => absent("index"),
     }
 }

@@ -30,7 +30,7 @@ impl From<Status> for ExitCode {
 }
 
 /// Why something could not be done.
-#[derive(Debug)]
+#[derive(Clone, Debug)]
 pub struct Failure {
     pub status: Status,
     /// What to say on standard error; nothing where it is empty.

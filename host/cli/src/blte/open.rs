@@ -6,11 +6,11 @@ use dwarnizza::{Envelope, Key};
 
 use super::{read, refused};
 use crate::command::{Arguments, Choice, Command};
+use crate::key_text;
 use crate::name::shown;
 use crate::output::Output;
 use crate::replace::{FORCE, OUT, write_file};
 use crate::status::Failure;
-use crate::worklist;
 
 const KEY: Choice = Choice {
     name: "--key",
@@ -63,5 +63,5 @@ fn run(arguments: &Arguments, output: &mut Output) -> Result<(), Failure> {
 
 /// The key of an envelope, which has 16 bytes.
 fn key(text: &OsStr) -> Result<Key, Failure> {
-    worklist::key(text.as_encoded_bytes(), 16).map_err(Failure::unfit)
+    key_text::key(text.as_encoded_bytes(), 16).map_err(Failure::unfit)
 }

@@ -3,12 +3,14 @@
 use dwarnizza::{Key, Refusal};
 
 use super::{Open, UNCHECKED, read, refused};
-use crate::answers::{each_sought, file_and_sought};
+use crate::answers::first_and_rest;
+use crate::batch::{Answer, Batch, Names, Teller};
 use crate::command::{Arguments, Choice, Command};
+use crate::key_text::{self, key_of_any_length};
 use crate::name::{hex, shown_bytes};
 use crate::output::{Field, Output};
 use crate::status::Failure;
-use crate::worklist::{self, key_of_any_length};
+use crate::worklist::{self, COLUMN, COLUMN_NAME, HEADER, SEPARATOR, WORKLIST, worklist_help};
 
 const ENCODING_KEYS: Choice = Choice {
     name: "--encoding-keys",
@@ -18,22 +20,49 @@ const ENCODING_KEYS: Choice = Choice {
 
 pub const COMMAND: Command = Command {
     name: "encoding find",
-    operands: "FILE KEY...",
+    operands: "FILE [KEY]...",
     summary: "find keys, in hex, in an encoding file that is checked whole first",
-    options: &[ENCODING_KEYS, UNCHECKED],
-    help: "It prints a line for each key:\n  \
-           found KEY SIZE ENCODING-KEY[,ENCODING-KEY]... of a content key, with the decoded size\n  \
-           found KEY SIZE SPEC-NUMBER SPEC of an encoding key, with the encoded size\n  \
-           absent KEY\n  \
-           refused KEY NUMBER PLACE, or refused TEXT where it is no key\n\
-           or one for the file:\n  \
-           refused FILE NUMBER PLACE\n  \
-           failed FILE where it could not be read",
+    options: &[
+        ENCODING_KEYS,
+        UNCHECKED,
+        WORKLIST,
+        COLUMN,
+        COLUMN_NAME,
+        HEADER,
+        SEPARATOR,
+    ],
+    help: concat!(
+        "\
+It prints a line for each key; ROW is the worklist's row, - for a KEY that was an operand:
+  found KEY SIZE ENCODING-KEY[,ENCODING-KEY]... ROW
+      of a content key, with the decoded size
+  found KEY SIZE SPEC-NUMBER SPEC ROW
+      of an encoding key, with the encoded size
+  absent KEY ROW
+  refused KEY ROW NUMBER PLACE, or refused TEXT ROW
+      no key; or a row that has none
+or one for the file:
+  refused FILE NUMBER PLACE
+  failed FILE
+      it could not be read
+
+",
+        worklist_help!()
+    ),
     run,
 };
 
+const NAMES: Names = Names {
+    what: "a key",
+    field: "key",
+    refused: "key",
+};
+
 fn run(arguments: &Arguments, output: &mut Output) -> Result<(), Failure> {
-    let (name, texts) = file_and_sought(arguments, "a key")?;
+    let (name, operands) = first_and_rest(arguments)?;
+    let list = worklist::File::from_arguments(arguments, output)?;
+    let batch = Batch::new(NAMES, operands, list.as_ref())?;
+    output.phase("reading the encoding file");
     let file = read(name)?;
     let failed = |refusal| refused(name, refusal, &file);
     let encoding = Open::new(arguments, &file).map_err(failed)?;
@@ -42,9 +71,16 @@ fn run(arguments: &Arguments, output: &mut Output) -> Result<(), Failure> {
     } else {
         find_content
     };
-    each_sought(texts, "key", output, |text| {
-        find(encoding, key(text)?).map_err(failed)
-    })
+    let mut teller = Teller::new(&batch);
+    teller.tell(output, |_, text| {
+        let found = key(text).and_then(|key| find(encoding, key).map_err(failed));
+        Some(match found {
+            Ok(Some(fields)) => Answer::Found(fields),
+            Ok(None) => Answer::Absent(Vec::new()),
+            Err(failure) => Answer::Refused(failure),
+        })
+    })?;
+    teller.end(output)
 }
 
 type Found = Result<Option<Vec<Field>>, Refusal>;
@@ -76,6 +112,6 @@ fn find_encoding(encoding: Open<'_>, key: Key) -> Found {
 fn key(text: &[u8]) -> Result<Key, Failure> {
     match key_of_any_length(text) {
         Some(key) => Ok(key),
-        None => worklist::key(text, 16).map_err(Failure::unfit),
+        None => key_text::key(text, 16).map_err(Failure::unfit),
     }
 }

@@ -12,10 +12,10 @@ use dwarnizza::{CheckedIndex, Key};
 
 use crate::command::{Arguments, Choice};
 use crate::input::read;
+use crate::key_text::key;
 use crate::name::shown;
 use crate::output::{Field, Output, Value};
 use crate::status::Failure;
-use crate::worklist::key;
 
 pub const ARCHIVES: Choice = Choice {
     name: "--archives",

@@ -3,10 +3,10 @@
 use std::ffi::{OsStr, OsString};
 use std::sync::atomic::{AtomicUsize, Ordering};
 
-use dwarnizza::index::{IndexEntry, Lookup, Summary};
+use dwarnizza::index::{IndexEntry, Lookup, Settings};
 use dwarnizza::{CheckedIndex, Key, Refusal, UncheckedIndex};
 
-use super::{IndexFile, entry_fields};
+use super::{IndexFile, archive};
 use crate::command::{Arguments, Choice};
 use crate::files;
 use crate::name::shown;
@@ -45,39 +45,107 @@ pub enum Before {
     FooterAndLength,
 }
 
-/// What all indexes have of the sought keys.
-pub struct Searched {
-    /// What the first index that has a key says of it, for each key.
-    pub found: Vec<Option<Vec<Field>>>,
+/// What the indexes have of the sought keys, of those that were searched so far.
+pub struct Searched<'a> {
+    names: &'a [OsString],
+    /// Where the first index that has a key places it, for each key.
+    found: Vec<Option<Place>>,
     /// The key lengths of the indexes, and the first index that has each.
     pub key_lengths: Vec<(u8, OsString)>,
+    /// An index was refused or could not be read: what is nowhere else may be there.
+    pub incomplete: bool,
 }
 
-/// A sought key.
+/// Where a key is placed.
+#[derive(Clone, Copy)]
+struct Place {
+    /// The number of the index.
+    index: usize,
+    settings: Settings,
+    size: u32,
+    archive: u32,
+    offset: u64,
+}
+
+impl<'a> Searched<'a> {
+    /// What the first index that has a key says of it.
+    pub fn fields(&self, number: usize) -> Option<Vec<Field>> {
+        let place = self.found[number]?;
+        Some(vec![
+            ("size", place.size.into()),
+            ("archive", archive(place.settings, place.archive)),
+            ("offset", place.offset.into()),
+            ("index", shown(&self.names[place.index]).into()),
+        ])
+    }
+
+    /// Takes what one index has: the first index that has a key answers.
+    fn take(&mut self, name: &OsStr, finds: Finds<'_>) {
+        let length = finds.settings.key_length;
+        if self.key_lengths.iter().all(|(known, _)| *known != length) {
+            self.key_lengths.push((length, name.to_owned()));
+        }
+        for (number, place) in finds.found {
+            self.found[number].get_or_insert(place);
+        }
+    }
+}
+
+/// A sought key and its number.
+type Numbered = (Key, usize);
+
+/// The sought keys.
 struct Sought {
-    /// None where there is nothing to seek.
-    key: Option<Key>,
-    /// The lowest number of an index that has it, of those searched so far.
-    first: AtomicUsize,
+    /// In rising order, by their lengths.
+    rising: Vec<Vec<Numbered>>,
+    /// The lowest number of an index that has a key, of those searched so far, by the key's number.
+    first: Vec<AtomicUsize>,
+}
+
+impl Sought {
+    fn new(keys: &[Option<Key>]) -> Self {
+        let mut rising = vec![Vec::new(); 17];
+        for (number, key) in keys.iter().enumerate() {
+            if let Some(key) = key {
+                rising[key.as_bytes().len()].push((*key, number));
+            }
+        }
+        for keys in &mut rising {
+            keys.sort_unstable();
+        }
+        let first = keys.iter().map(|_| AtomicUsize::new(usize::MAX));
+        Self {
+            rising,
+            first: first.collect(),
+        }
+    }
+
+    /// The keys of a length that stand from this key to that one.
+    fn between(&self, first: &[u8], last: &[u8]) -> &[Numbered] {
+        let keys = &self.rising[first.len()];
+        let start = keys.partition_point(|(key, _)| key.as_bytes() < first);
+        let end = keys.partition_point(|(key, _)| key.as_bytes() <= last);
+        &keys[start..end]
+    }
 }
 
 /// Searches the keys in each index. One that is refused or cannot be read is told, and left out.
-pub fn search(
-    names: &[OsString],
-    keys: impl Iterator<Item = Option<Key>>,
+/// `known` is called after each index.
+pub fn search<'a>(
+    names: &'a [OsString],
+    keys: &[Option<Key>],
     before: Before,
     output: &mut Output,
-) -> Result<Searched, Failure> {
-    let sought: Vec<Sought> = keys
-        .map(|key| Sought {
-            key,
-            first: AtomicUsize::new(usize::MAX),
-        })
-        .collect();
+    mut known: impl FnMut(&Searched<'a>, &mut Output) -> Result<(), Failure>,
+) -> Result<Searched<'a>, Failure> {
+    let sought = Sought::new(keys);
     let mut searched = Searched {
-        found: sought.iter().map(|_| None).collect(),
+        names,
+        found: vec![None; keys.len()],
         key_lengths: Vec::new(),
+        incomplete: false,
     };
+    output.phase(&format!("0 of {} indexes", names.len()));
     let mut done = 0;
     let numbered: Vec<_> = names.iter().enumerate().collect();
     parallel::each(
@@ -85,105 +153,143 @@ pub fn search(
         |(number, name)| search_one(*number, name, before, &sought),
         |(_, name), finds| {
             done += 1;
-            output.progress(done, names.len());
             match finds {
                 Ok(finds) => searched.take(name, finds),
-                Err(failure) => output.failed_file(name, &failure)?,
+                Err(failure) => {
+                    searched.incomplete = true;
+                    output.failed_file(name, &failure)?;
+                }
             }
+            known(&searched, output)?;
+            output.progress(done, names.len());
             Ok(())
         },
     )?;
     Ok(searched)
 }
 
-impl Searched {
-    /// Takes what one index has: the first index that has a key answers.
-    fn take(&mut self, name: &OsStr, finds: Finds) {
-        let length = finds.key_length;
-        if self.key_lengths.iter().all(|(known, _)| *known != length) {
-            self.key_lengths.push((length, name.to_owned()));
-        }
-        for (number, fields) in finds.found {
-            self.found[number].get_or_insert(fields);
-        }
-    }
-}
-
 /// What one index has of the sought keys.
-struct Finds {
-    key_length: u8,
-    found: Vec<(usize, Vec<Field>)>,
+struct Finds<'a> {
+    sought: &'a Sought,
+    /// The number of the index.
+    index: usize,
+    settings: Settings,
+    /// The numbers of the keys, and their places.
+    found: Vec<(usize, Place)>,
 }
 
-/// An index that can be searched.
-#[derive(Clone, Copy)]
-enum Open<'a> {
-    Checked(CheckedIndex<'a>),
-    Unchecked(UncheckedIndex<'a>, Summary),
-}
-
-impl<'a> Open<'a> {
-    fn new(file: &'a IndexFile, before: Before) -> Result<Self, Failure> {
-        match before {
-            Before::FullCheck => file.check().map(Self::Checked),
-            Before::FooterAndLength => {
-                let index = file.unchecked();
-                let summary = index.summary().map_err(|refusal| file.refused(refusal))?;
-                Ok(Self::Unchecked(index, summary))
-            }
-        }
-    }
-
-    fn summary(self) -> Summary {
-        match self {
-            Self::Checked(index) => index.summary(),
-            Self::Unchecked(_, summary) => summary,
-        }
-    }
-
-    /// The entry of a key.
-    fn find(self, key: Key) -> Result<Option<IndexEntry<'a>>, Refusal> {
-        let lookup = match self {
-            Self::Checked(index) => index.find(key),
-            Self::Unchecked(index, _) => index.find(key),
-        };
-        match (lookup?, self) {
-            (Lookup::Absent { .. }, _) => Ok(None),
-            (Lookup::Found(at), Self::Checked(index)) => Ok(index.entry_at(at.page, at.slot)),
-            (Lookup::Found(at), Self::Unchecked(index, _)) => index.entry_at(at.page, at.slot),
-        }
-    }
-}
-
-/// Looks up all keys of the index's length that no index before it has.
-fn search_one(
-    index_number: usize,
+/// Searches the keys in one index.
+fn search_one<'a>(
+    index: usize,
     name: &OsStr,
     before: Before,
-    sought: &[Sought],
-) -> Result<Finds, Failure> {
+    sought: &'a Sought,
+) -> Result<Finds<'a>, Failure> {
     let file = IndexFile::read(name)?;
-    let index = Open::new(&file, before)?;
-    let settings = index.summary().settings;
-    let mut found = Vec::new();
-    for (number, sought) in sought.iter().enumerate() {
-        let of_length = |key: &Key| key.as_bytes().len() == settings.key_length.into();
-        let Some(key) = sought.key.filter(of_length) else {
-            continue;
-        };
-        if sought.first.load(Ordering::Relaxed) < index_number {
-            continue;
+    let finds = |settings| Finds {
+        sought,
+        index,
+        settings,
+        found: Vec::new(),
+    };
+    match before {
+        Before::FullCheck => {
+            let index = file.check()?;
+            Ok(finds(index.settings()).of_checked(index))
         }
-        let entry = index.find(key).map_err(|refusal| file.refused(refusal))?;
-        if let Some(entry) = entry {
-            sought.first.fetch_min(index_number, Ordering::Relaxed);
-            let mut fields = Vec::from(entry_fields(settings, &entry));
-            fields.push(("index", shown(name).into()));
-            found.push((number, fields));
+        Before::FooterAndLength => {
+            let index = file.unchecked();
+            let found = index.summary();
+            let found = found.and_then(|summary| finds(summary.settings).of_unchecked(index));
+            found.map_err(|refusal| file.refused(refusal))
         }
     }
-    Ok(Finds {
-        key_length: settings.key_length,
-        found,
-    })
+}
+
+impl Finds<'_> {
+    /// Of the sought keys, those between the index's first and last are looked up one by one where
+    /// they are few beside its entries. Else its list is gone through once, as both rise.
+    fn of_checked(mut self, index: CheckedIndex<'_>) -> Self {
+        let entries = index.summary().entries;
+        let ends = [0, entries.saturating_sub(1)].map(|number| index.entry(number as u64));
+        let [Some(first), Some(last)] = ends else {
+            return self;
+        };
+        let keys = self.sought.between(first.key, last.key);
+        if keys.len() > entries / 2 {
+            self.go_through(index, entries, keys);
+            return self;
+        }
+        for (key, number) in keys {
+            if self.is_wanted(*number) {
+                let found = index.find(key).expect("the key has the index's length");
+                let entry = found
+                    .found()
+                    .and_then(|at| index.entry_at(at.page, at.slot));
+                self.take(*number, entry);
+            }
+        }
+        self
+    }
+
+    /// All keys of the index's length are looked up: its order is not known.
+    fn of_unchecked(mut self, index: UncheckedIndex<'_>) -> Result<Self, Refusal> {
+        for (key, number) in &self.sought.rising[usize::from(self.settings.key_length)] {
+            if self.is_wanted(*number)
+                && let Lookup::Found(at) = index.find(key)?
+            {
+                self.take(*number, index.entry_at(at.page, at.slot)?);
+            }
+        }
+        Ok(self)
+    }
+
+    fn go_through(&mut self, index: CheckedIndex<'_>, entries: usize, mut keys: &[Numbered]) {
+        let list = index.list();
+        let key_length = usize::from(self.settings.key_length);
+        for (number, entry) in (0..).zip(list.chunks_exact(list.len() / entries)) {
+            let key = &entry[..key_length];
+            keys = &keys[below(keys, key)..];
+            let same = keys.iter().take_while(|(other, _)| other.as_bytes() == key);
+            let wanted = same.filter(|(_, number)| self.is_wanted(*number));
+            let wanted: Vec<_> = wanted.map(|(_, number)| *number).collect();
+            self.take_all(&wanted, || index.entry(number));
+        }
+    }
+
+    /// Whether no index before this one has the key of this number.
+    fn is_wanted(&self, number: usize) -> bool {
+        self.sought.first[number].load(Ordering::Relaxed) >= self.index
+    }
+
+    /// Takes the entry of some keys, which are the same key.
+    fn take_all<'a>(&mut self, numbers: &[usize], entry: impl Fn() -> Option<IndexEntry<'a>>) {
+        for number in numbers {
+            self.take(*number, entry());
+        }
+    }
+
+    fn take(&mut self, number: usize, entry: Option<IndexEntry<'_>>) {
+        let Some(entry) = entry else { return };
+        self.sought.first[number].fetch_min(self.index, Ordering::Relaxed);
+        let place = Place {
+            index: self.index,
+            settings: self.settings,
+            size: entry.size,
+            archive: entry.archive,
+            offset: entry.offset,
+        };
+        self.found.push((number, place));
+    }
+}
+
+/// How many of these keys, which rise, are below this one. It is quick where they are few.
+fn below(keys: &[Numbered], key: &[u8]) -> usize {
+    let is_below = |(other, _): &Numbered| other.as_bytes() < key;
+    let mut end = 1;
+    while keys.get(end).is_some_and(is_below) {
+        end *= 2;
+    }
+    let start = end / 2;
+    start + keys[start..keys.len().min(end + 1)].partition_point(is_below)
 }

@@ -10,9 +10,9 @@ use dwarnizza::{Index, Key, Reason};
 use super::refused;
 use crate::command::decimal;
 use crate::input::open;
+use crate::key_text::key;
 use crate::name::{shown, shown_bytes};
 use crate::status::Failure;
-use crate::worklist::key;
 
 /// A list is judged when it has so many bytes, and each time it has doubled, so that one that is
 /// refused is not read to its end.

@@ -1,0 +1,91 @@
+//! Whether the first row of a list is a header, where nobody said so.
+
+/// Letters that are read for digits.
+const LOOK_ALIKES: &[u8] = b"OoQqIiLlSsZzBb";
+
+/// Whether this is a plain word that is neither near a file number nor near a key. It begins with
+/// a letter and has letters, digits, blanks, `_`, `-` and `.` only. It has more letters than digits,
+/// no three digits in a row, and a letter that is not read for a digit. At most three quarters of
+/// its letters and digits are hex digits.
+pub fn is_plain_word(text: &[u8]) -> bool {
+    let count = |is: fn(&u8) -> bool| text.iter().filter(|byte| is(byte)).count();
+    let (letters, digits) = (count(u8::is_ascii_alphabetic), count(u8::is_ascii_digit));
+    let plain = |byte: &u8| byte.is_ascii_alphanumeric() || b" _-.".contains(byte);
+    let near_a_number = digits >= letters
+        || text
+            .windows(3)
+            .any(|three| three.iter().all(u8::is_ascii_digit))
+        || !text.iter().any(is_sure_letter);
+    let near_a_key = 4 * count(u8::is_ascii_hexdigit) > 3 * (letters + digits);
+    text.first().is_some_and(u8::is_ascii_alphabetic)
+        && text.iter().all(plain)
+        && !near_a_number
+        && !near_a_key
+}
+
+fn is_sure_letter(byte: &u8) -> bool {
+    byte.is_ascii_alphabetic() && !LOOK_ALIKES.contains(byte)
+}
+
+#[cfg(test)]
+mod tests {
+    use super::is_plain_word;
+
+    #[test]
+    fn headers() {
+        for text in [
+            "FileDataID",
+            "file_number",
+            "ckey",
+            "encoding key",
+            "Key",
+            "id",
+            "ID",
+            "EKey",
+            "fdid",
+            "name",
+            "md5 of it",
+            "file-number.1",
+            "x",
+        ] {
+            assert!(is_plain_word(text.as_bytes()), "{text}");
+        }
+    }
+
+    #[test]
+    fn rows() {
+        let key = "ae5da97c10327bc86eb33511688654da";
+        let short = &key[1..];
+        let spoilt = key.replace("10327", "ef_ga").replace("688654", "abcdef");
+        for text in [
+            "O417",
+            "417 ",
+            "41 7",
+            "l349477",
+            "O41",
+            "l7",
+            "O",
+            "IO",
+            "deadbeef",
+            "face",
+            "cafe",
+            "E5",
+            "a1b2",
+            "0x1A1",
+            "=417",
+            "\"id\"",
+            "Schl\u{fc}ssel",
+            "",
+            " id",
+            key,
+            short,
+            &spoilt,
+            "decode",
+            "00417",
+            "id,key",
+            "id;key",
+        ] {
+            assert!(!is_plain_word(text.as_bytes()), "{text}");
+        }
+    }
+}
