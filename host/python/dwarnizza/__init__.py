@@ -24,6 +24,7 @@ except ImportError:
 from .chain import Build, Resolved, UncheckedBuild
 from .encoding import CheckedEncoding, ContentEntry, Encoding, EncodingEntry, UncheckedEncoding
 from .envelope import CheckedEnvelope, Envelope
+from .file_number import NotFileNumber, NumberFault, file_number
 from .hashing import Md5, md5
 from .index import (
     CheckedIndex,
@@ -45,6 +46,7 @@ from .index import (
 from .key import key_from_text
 from .refusal import Link, Reason, Refusal
 from .root import ALL_LOCALES, CheckedRoot, Record, Root
+from .worklist import Field, Row, Worklist
 
 __all__ = [
     "ALL_LOCALES",
@@ -58,24 +60,30 @@ __all__ = [
     "EncodingEntry",
     "Entry",
     "Envelope",
+    "Field",
     "Footer",
     "Index",
     "IndexEntry",
     "Link",
     "Lookup",
     "Md5",
+    "NotFileNumber",
+    "NumberFault",
     "PageParts",
     "Reason",
     "Record",
     "Refusal",
     "Resolved",
     "Root",
+    "Row",
     "Settings",
     "Summary",
     "UncheckedBuild",
     "UncheckedEncoding",
     "UncheckedIndex",
+    "Worklist",
     "entry_bytes",
+    "file_number",
     "key_from_text",
     "listing",
     "md5",

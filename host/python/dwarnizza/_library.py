@@ -118,16 +118,19 @@ def _as_it_is(value: Any, _lent: List[_Buffer]) -> Tuple[Any, ...]:
     return (value,)
 
 
+def checked(name: str, bits: int, value: int) -> int:
+    """The number, which has so many bits. What ctypes would cut to its bits is an error here."""
+    number = operator.index(value)
+    if not 0 <= number < 1 << bits:
+        raise ValueError(f"{name} is {number}, which is not 0 to {(1 << bits) - 1}")
+    return number
+
+
 def _number(name: str, bits: int) -> _Converter:
-    """What ctypes would cut to its bits is an error here."""
+    def number(value: int, _lent: List[_Buffer]) -> Tuple[Any, ...]:
+        return (checked(name, bits, value),)
 
-    def checked(value: int, _lent: List[_Buffer]) -> Tuple[Any, ...]:
-        number = operator.index(value)
-        if not 0 <= number < 1 << bits:
-            raise ValueError(f"{name} is {number}, which is not 0 to {(1 << bits) - 1}")
-        return (number,)
-
-    return checked
+    return number
 
 
 def _converter(name: str, c_type: str) -> _Converter:

@@ -136,6 +136,8 @@ class Numbers(unittest.TestCase):
             lambda: root.find(-1),
             lambda: root.find(417, locale=2**32),
             lambda: root.find(417, unwanted=2**64),
+            lambda: root.find_many([417, 417 + 2**32]),
+            lambda: root.find_many([-1]),
             lambda: index.entry(-1),
             lambda: key_from_text("00", 257),
             lambda: write_index(Settings(257, 4, 1), b""),
@@ -153,6 +155,8 @@ class Numbers(unittest.TestCase):
         for wrong in ("417", 417.0, None, b"417"):
             with self.assertRaises(TypeError):
                 root.find(wrong)
+            with self.assertRaises(TypeError):
+                root.find_many([wrong])
 
 
 class Keys(unittest.TestCase):

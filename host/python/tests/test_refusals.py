@@ -18,6 +18,7 @@ from dwarnizza import (
     Root,
     Settings,
     UncheckedBuild,
+    Worklist,
     entry_bytes,
     key_from_text,
     listing,
@@ -158,6 +159,7 @@ def roots() -> List[Case]:
         (42, 0, lambda: Root.check(b"TSFM" + struct.pack("<3I", 16, 2, 0))),
         (43, 0, lambda: Root.check(b"TSFM")),
         (44, 0, lambda: Root.check(b"TSFM" + struct.pack("<3I", 24, 4, 0))),
+        (161, 2, lambda: Root.check(BLOCK).find_many([5, 5, 4])),
     ]
 
 
@@ -177,6 +179,10 @@ def keys() -> List[Case]:
     ]
 
 
+def worklists() -> List[Case]:
+    return [(11, 0, lambda of=of: Worklist(b"417", of)) for of in ('"', "\r", "\n", "\u0100")]
+
+
 def refusal_of(call: Callable[[], object]) -> Optional[Refusal]:
     """What a call refuses with."""
     try:
@@ -190,7 +196,7 @@ class Refusals(unittest.TestCase):
     def cases(self) -> List[Case]:
         indexes = index_checks() + index_calls() + writer()
         encodings = encoding_checks() + encoding_calls()
-        return indexes + envelopes() + encodings + roots() + keys()
+        return indexes + envelopes() + encodings + roots() + keys() + worklists()
 
     def test_each_call_refuses_with_its_number_and_place(self) -> None:
         for case, (number, place, call) in enumerate(self.cases()):
