@@ -11,12 +11,14 @@ mod index;
 mod key;
 mod keys;
 mod machine;
+mod many;
 mod md5;
 mod measure;
 mod openssl;
 mod parsed;
 mod root;
 mod table;
+mod worklist;
 
 use std::env;
 use std::process::ExitCode;
@@ -26,7 +28,7 @@ use table::Table;
 /// A part by its name.
 type Part = (&'static str, fn(&mut Table));
 
-const PARTS: [Part; 7] = [
+const PARTS: [Part; 8] = [
     ("md5", md5::measure),
     ("index", index::measure),
     ("key", key::measure),
@@ -34,10 +36,11 @@ const PARTS: [Part; 7] = [
     ("encoding", encoding::measure),
     ("root", root::measure),
     ("chain", chain::measure),
+    ("worklist", worklist::measure),
 ];
 
-/// The table beside these: lookups in parsed forms.
-const PARSED: &str = "parsed";
+/// A table beside these: many ids at once, and lookups in parsed forms.
+const TABLES: [(&str, fn()); 2] = [("many", many::print), ("parsed", parsed::print)];
 
 fn main() -> ExitCode {
     let arguments: Vec<_> = env::args().skip(1).collect();
@@ -46,9 +49,10 @@ fn main() -> ExitCode {
         [only] => only == name,
         _ => false,
     };
-    let names = PARTS.map(|(name, _)| name);
-    if !names.into_iter().chain([PARSED]).any(wanted) {
-        eprintln!("usage: bench [{} | {PARSED}]", names.join(" | "));
+    let parts = PARTS.into_iter().map(|(name, _)| name);
+    let names: Vec<_> = parts.chain(TABLES.map(|(name, _)| name)).collect();
+    if !names.iter().any(|name| wanted(name)) {
+        eprintln!("usage: bench [{}]", names.join(" | "));
         return ExitCode::from(64);
     }
     machine::print();
@@ -57,8 +61,8 @@ fn main() -> ExitCode {
     for (_, measure) in parts {
         measure(&mut table);
     }
-    if wanted(PARSED) {
-        parsed::print();
+    for (_, print) in TABLES.iter().filter(|(name, _)| wanted(name)) {
+        print();
     }
     ExitCode::SUCCESS
 }

@@ -1,9 +1,10 @@
 //! Root files, of blocks of 3,750 records.
 
-use fuzz::export::{ABSENT, ANSWERED, Export, Given, ROOT_CHECK, ROOT_FIND};
+use fuzz::export::{ABSENT, ANSWERED, Export, Given, ROOT_CHECK, ROOT_FIND, ROOT_FIND_MANY};
 use second::root::{BlockParts, Header, Record, write};
 
 use crate::encoding::content_key;
+use crate::many::{FOUND, rising};
 use crate::table::{Call, Table};
 
 /// How many blocks the files have.
@@ -91,6 +92,16 @@ impl File {
             ..self.call(&ROOT_FIND, kind)
         }
     }
+
+    /// The lookup of many ids.
+    fn find_many<'a>(&'a self, ids: &'a [u8]) -> Call<'a> {
+        let numbers = [LOCALE.into(), 0];
+        Call {
+            given: Box::new(move |_| Given::new([&self.bytes, ids], numbers)),
+            output: FOUND * (ids.len() / 4),
+            ..self.call(&ROOT_FIND_MANY, ", an id for each 15 records")
+        }
+    }
 }
 
 /// Prints the lines.
@@ -110,8 +121,12 @@ pub fn measure(table: &mut Table) {
         let id = file.last_id(file.blocks - 1);
         file.find(", in the last block", id)
     }));
-    table.calls(files.map(|file| Call {
+    table.calls(files.clone().map(|file| Call {
         result: ABSENT,
         ..file.find(", absent", u32::MAX)
     }));
+    let lists = with_header
+        .each_ref()
+        .map(|file| rising(file.records() / 15, file.records()));
+    table.calls(files.zip(&lists).map(|(file, ids)| file.find_many(ids)));
 }

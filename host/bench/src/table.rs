@@ -147,7 +147,7 @@ fn try_out(call: &Call) {
 }
 
 /// A call of the library.
-fn library(export: &Export, given: &Given, output: &mut [u8], answer: &mut [u64; 8]) -> u32 {
+pub fn library(export: &Export, given: &Given, output: &mut [u8], answer: &mut [u64; 8]) -> u32 {
     let lent = Lent {
         output: output.as_mut_ptr(),
         length: output.len(),
@@ -182,7 +182,8 @@ pub fn duration(seconds: f64) -> String {
     let (number, unit) = match seconds {
         ..1e-6 => (seconds * 1e9, "ns"),
         ..1e-3 => (seconds * 1e6, "µs"),
-        _ => (seconds * 1e3, "ms"),
+        ..1.0 => (seconds * 1e3, "ms"),
+        _ => (seconds, "s"),
     };
     let places = match number {
         ..10.0 => 2,
