@@ -62,7 +62,7 @@ fn a_damaged_page_is_named() {
     );
     let arguments = ["encoding", "spec", "damaged", "0", "--unchecked"];
     expect(&folder, &arguments, 0, "found\t0\tn\n", "");
-    let found = format!("found\t{CONTENT}\t108\t{FIRST},{SECOND}\n");
+    let found = format!("found\t{CONTENT}\t108\t{FIRST},{SECOND}\t-\n");
     let arguments = ["encoding", "find", "--unchecked", "damaged", CONTENT];
     expect(&folder, &arguments, 0, &found, "");
 }
@@ -85,7 +85,7 @@ fn a_cut_file_is_told() {
 #[test]
 fn find() {
     let absent = "00000000000000000000000000000000";
-    let found = format!("found\t{CONTENT}\t108\t{FIRST},{SECOND}\nabsent\t{absent}\n");
+    let found = format!("found\t{CONTENT}\t108\t{FIRST},{SECOND}\t-\nabsent\t{absent}\t-\n");
     expect(
         &sample(),
         &["encoding", "find", "encoding", CONTENT, absent],
@@ -93,11 +93,11 @@ fn find() {
         &found,
         "",
     );
-    let found = format!("found\t{FIRST}\t117\t0\tn\n");
+    let found = format!("found\t{FIRST}\t117\t0\tn\t-\n");
     let arguments = ["encoding", "find", "--encoding-keys", "encoding", FIRST];
     expect(&sample(), &arguments, 0, &found, "");
     let json = format!(
-        "{{\"answer\":\"found\",\"key\":\"{CONTENT}\",\"size\":108,\"encoding_keys\":\"{FIRST},{SECOND}\"}}\n"
+        "{{\"answer\":\"found\",\"key\":\"{CONTENT}\",\"size\":108,\"encoding_keys\":\"{FIRST},{SECOND}\",\"row\":null}}\n"
     );
     let arguments = ["encoding", "find", "--json", "encoding", CONTENT];
     expect(&sample(), &arguments, 0, &json, "");
@@ -107,13 +107,13 @@ fn find() {
 fn a_short_key_is_refused_and_never_padded() {
     let words = "\"00417\" has 5 characters, a key has 32";
     let arguments = ["encoding", "find", "encoding", "00417"];
-    expect(&sample(), &arguments, 2, "refused\t00417\n", words);
+    expect(&sample(), &arguments, 2, "refused\t00417\t-\n", words);
     let arguments = ["encoding", "find", "encoding", "0417"];
     expect(
         &sample(),
         &arguments,
         2,
-        "refused\t0417\t39\t0\n",
+        "refused\t0417\t-\t39\t0\n",
         "32 hex digits",
     );
 }

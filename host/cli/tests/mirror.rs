@@ -246,8 +246,8 @@ fn find_in_many() {
     mirror(&folder);
     let [one, two, none] = [key(1), key(150), key(1000)];
     let lines = format!(
-        "refused\tdata/three.index\t1\t0\nfound\t{one}\t10\t-\t5\tdata/aa/one.index\t-\n\
-         found\t{two}\t457\t-\t750\tdata/bb/two.index\t-\nabsent\t{none}\t-\n"
+        "found\t{one}\t10\t-\t5\tdata/aa/one.index\t-\nfound\t{two}\t457\t-\t750\tdata/bb/two.index\t-\n\
+         refused\tdata/three.index\t1\t0\nunknown\t{none}\t-\n"
     );
     let find = ["index", "find", "--index", "data", &one, &two, &none];
     run(&folder, find).expect(2, &lines, &["data/three.index: refused 1"]);
@@ -277,7 +277,8 @@ fn find_unchecked() {
     put(&folder, "bad", bad);
     let key = key(1);
     let find = ["index", "find", "--index", "bad", &key];
-    run(&folder, find).expect(2, "refused\tbad\t6\t0\n", &["refused 6"]);
+    let unknown = format!("refused\tbad\t6\t0\nunknown\t{key}\t-\n");
+    run(&folder, find).expect(2, &unknown, &["refused 6"]);
     run(&folder, find.iter().chain(&["--unchecked"])).expect(
         0,
         &format!("found\t{key}\t10\t-\t5\tbad\t-\n"),

@@ -69,7 +69,7 @@ fn build() -> PathBuf {
 }
 
 /// Commands, and arguments of theirs that give every answer.
-const RUNS: [(&str, &str); 21] = [
+const RUNS: [(&str, &str); 25] = [
     (
         "resolve",
         "resolve --root root-v1 --encoding encoding --index archives 417 9002 00417",
@@ -77,6 +77,10 @@ const RUNS: [(&str, &str); 21] = [
     (
         "resolve",
         "resolve --root root-v1 --encoding encoding --index archives --worklist worklist.tsv --column 1",
+    ),
+    (
+        "resolve",
+        "resolve --root root-v1 --encoding encoding --index encoding 417",
     ),
     (
         "index check",
@@ -91,6 +95,10 @@ const RUNS: [(&str, &str); 21] = [
         "index find",
         "index find --index archives --worklist worklist.csv --column 3",
     ),
+    (
+        "index find",
+        "index find --index nothing ae5da97c10327bc86eb33511688654da",
+    ),
     ("index list", "index list old"),
     ("index write", "index write text -o written"),
     ("index info", "index info old"),
@@ -102,17 +110,34 @@ const RUNS: [(&str, &str); 21] = [
         "encoding find encoding cb78b02b638a38bada59a1f7ff476929 00000000000000000000000000000000 00417",
     ),
     (
+        "encoding find",
+        "encoding find encoding --worklist worklist.csv --column 3",
+    ),
+    (
         "encoding find --encoding-keys",
         "encoding find --encoding-keys encoding ae5da97c10327bc86eb33511688654da",
     ),
     ("encoding spec", "encoding spec encoding 0 x"),
     ("root check", "root check root-v1"),
     ("root find", "root find root-v1 417 5 00417"),
+    (
+        "root find",
+        "root find root-v1 --worklist worklist.csv --column 2",
+    ),
     ("blte open", "blte open encoding.blte -o content"),
     ("blte key", "blte key encoding.blte"),
     ("md5", "md5 encoding"),
     ("md5 -c", "md5 -c list sums"),
 ];
+
+/// Whether it is one of the two answers that every command gives which takes files.
+fn is_of_a_file(word: &str, fields: &[String]) -> bool {
+    match word {
+        "refused" => fields == ["file", "number", "place"],
+        "failed" => fields == ["file"],
+        _ => false,
+    }
+}
 
 #[test]
 fn every_answer_has_its_fields() {
@@ -126,6 +151,9 @@ fn every_answer_has_its_fields() {
         let said = run(&folder, arguments.split(' ').chain(["--json"]));
         for line in said.lines.lines() {
             let (word, fields) = object(line);
+            if is_of_a_file(&word, &fields) {
+                continue;
+            }
             let answer = (command.to_string(), word);
             assert_eq!(documented.get(&answer), Some(&fields), "{answer:?} {line}");
             met.insert(answer);

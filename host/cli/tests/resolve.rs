@@ -101,24 +101,25 @@ fn what_a_file_holds_is_what_the_answer_says() {
 #[test]
 fn a_worklist_is_answered_row_by_row() {
     let mut arguments = build("root-v2", "archives");
-    arguments.extend(["--worklist", "worklist.csv", "--column", "file"]);
+    arguments.extend(["--worklist", "worklist.csv", "--column-name", "file"]);
     let said = expect(
         &sample(),
         &arguments,
         2,
         "",
-        "21 rows: 13 found, 2 absent, 6 refused; 1 duplicate",
+        "22 rows, row 1 is the header (name,file,key): 13 found, 2 absent, 0 unknown, 6 refused; \
+         1 duplicate",
     );
     for words in [
         "\nabsent\t5\troot\t14\n",
         "\nrefused\t00417\t16\n",
         "\nrefused\t\t21\n",
-        "worklist.csv: column file, row 16: \"00417\" begins with 0",
-        "row 17: \"e6ef4743229042990c37cda050cbb585\" (32 characters) is no file number",
-        "row 18: \"417.0\"",
-        "row 19: \"4294967296\" is above 4294967295",
-        "row 20: \"417 \"",
-        "row 21: \"\"",
+        "worklist.csv: column file, row 16: \"00417\" is no file number: leading zero",
+        "row 17: \"e6ef4743229042990c37cda050cbb585\" is no file number: \"e\" is no digit",
+        "row 18: \"417.0\" is no file number: \".\" is no digit; it looks like a fraction",
+        "row 19: \"4294967296\" is no file number: it is above 4294967295",
+        "row 20: \"417 \" is no file number: \" \" is no digit; there are blanks around it",
+        "row 21: it is empty",
     ] {
         assert!(said.contains(words), "{words}\n{said}");
     }
@@ -131,8 +132,8 @@ fn a_worklist_is_answered_row_by_row() {
 #[test]
 fn a_column_that_mixes_keys_and_numbers_is_not_guessed() {
     let mut arguments = build("root-v1", "archives");
-    arguments.extend(["--worklist=worklist.tsv", "--column=file or key"]);
-    let words = "6 rows: 3 found, 0 absent, 3 refused; 0 duplicate";
+    arguments.extend(["--worklist=worklist.tsv", "--column-name=file or key"]);
+    let words = "7 rows, row 1 is the header (name\\tfile or key): 3 found, 0 absent, 0 unknown, 3 refused; 0 duplicate";
     let said = expect(&sample(), &arguments, 2, "", words);
     assert_eq!(said.matches("is no file number").count(), 3);
 }
@@ -158,7 +159,7 @@ fn a_damaged_index_is_told_and_the_others_answer() {
     let said = expect(&folder, &arguments, 2, "", "refused 6 at 0");
     let first = format!("refused\t{name}\t6\t0\nfound\t417\t");
     assert!(said.starts_with(&first), "{said}");
-    assert!(said.contains("\nabsent\t418\tindex\t-\n"), "{said}");
+    assert!(said.contains("\nunknown\t418\tindex\t-\n"), "{said}");
 }
 
 #[test]
@@ -199,8 +200,8 @@ fn other_files_are_refused_with_their_kind() {
 fn without_a_good_index_nothing_is_absent() {
     let mut arguments = build("root-v1", "root-v2");
     arguments.push("417");
-    let refused = "refused\troot-v2\t2\t0\n";
-    expect(&sample(), &arguments, 2, refused, "it is a root file");
+    let unknown = "refused\troot-v2\t2\t0\nunknown\t417\tindex\t-\n";
+    expect(&sample(), &arguments, 2, unknown, "it is a root file");
     let mut arguments = build("root-v1", "loose");
     arguments.push("417");
     let said = expect(&sample(), &arguments, 1, "", "ends in .index");
@@ -237,7 +238,7 @@ fn wrong_usage() {
         "",
         "a file number is missing",
     );
-    without_numbers.push("--column=file");
+    without_numbers.push("--column=1");
     expect(
         &sample(),
         &without_numbers,

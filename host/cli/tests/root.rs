@@ -43,7 +43,7 @@ fn a_cut_file_is_refused_at_its_block() {
 #[test]
 fn find_in_both_layouts() {
     for (name, place) in [("root-v1", 220), ("root-v2", 249)] {
-        let found = format!("found\t417\t{ENGLISH}\t{place}\nabsent\t5\n");
+        let found = format!("found\t417\t{ENGLISH}\t{place}\t-\nabsent\t5\t-\n");
         expect(
             &sample(),
             &["root", "find", name, "417", "5"],
@@ -66,7 +66,7 @@ fn find_in_both_layouts() {
         for number in ["2147483647", "4294967295"] {
             let said = expect(&sample(), &["root", "find", name, number], 0, "", "");
             assert!(said.starts_with("found\t"), "{said}");
-            let absent = format!("absent\t{number}\n");
+            let absent = format!("absent\t{number}\t-\n");
             let arguments = ["root", "find", "--without", "0x80", name, number];
             expect(&sample(), &arguments, 1, &absent, "");
         }
@@ -76,12 +76,15 @@ fn find_in_both_layouts() {
 #[test]
 fn what_is_no_file_number_is_refused_with_the_words_why() {
     for (text, words) in [
-        ("00417", "no leading zero"),
-        ("417.0", "decimal digits only"),
+        (
+            "00417",
+            "leading zero: a file number has none; is it a key?",
+        ),
+        ("417.0", "\".\" is no digit; it looks like a fraction"),
         ("4294967296", "above 4294967295"),
-        (ENGLISH, "decimal digits only"),
+        (ENGLISH, "\"f\" is no digit; is it a key?"),
     ] {
-        let refused = format!("refused\t{text}\n");
+        let refused = format!("refused\t{text}\t-\n");
         expect(
             &sample(),
             &["root", "find", "root-v1", text],

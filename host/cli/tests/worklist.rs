@@ -1,4 +1,4 @@
-//! Worklists of `dwarnizza index find`.
+//! Worklists: every row of a list comes back once, and none is misread.
 
 mod forge;
 mod run;
@@ -6,30 +6,45 @@ mod run;
 use std::path::Path;
 
 use forge::{W4, index, key};
-use run::{Run, folder, put, run};
+use run::{Run, folder, put, run, sample};
 
 /// Finds the keys of a worklist of these bytes in an index of three entries.
 fn find(folder: &Path, list: &[u8], options: &[&str]) -> Run {
     put(folder, "index", index(W4, 3, 0));
     put(folder, "list.csv", list);
-    let find = [
-        "index",
-        "find",
-        "--index",
-        "index",
-        "--worklist",
-        "list.csv",
-    ];
+    let find = ["index", "find", "--index", "index"];
+    let list = ["--worklist", "list.csv"];
+    run(folder, find.iter().chain(&list).chain(options))
+}
+
+/// Finds the file numbers of a worklist of these bytes in the sample build's root file.
+fn root(folder: &Path, list: &[u8], options: &[&str]) -> Run {
+    let file = sample().join("root-v1");
+    let file = file.to_str().expect("its name is text");
+    put(folder, "list.csv", list);
+    let find = ["root", "find", file, "--worklist", "list.csv"];
     run(folder, find.iter().chain(options))
 }
 
 fn found(number: u32, row: usize) -> String {
+    let (size, offset) = (7 + 3 * number, 5 * number);
     format!(
-        "found\t{}\t{}\t-\t{}\tindex\t{row}\n",
-        key(number),
-        7 + 3 * number,
-        5 * number
+        "found\t{}\t{size}\t-\t{offset}\tindex\t{row}\n",
+        key(number)
     )
+}
+
+fn absent(key: &str, row: usize) -> String {
+    format!("absent\t{key}\t{row}\n")
+}
+
+/// What each line says: its word, its text and its row.
+fn answers(lines: &str) -> Vec<(&str, &str, &str)> {
+    let answer = |line| {
+        let fields: Vec<&str> = str::split(line, '\t').collect();
+        (fields[0], fields[1], fields[fields.len() - 1])
+    };
+    lines.lines().map(answer).collect()
 }
 
 #[test]
@@ -41,23 +56,307 @@ fn a_column_of_quoted_rows() {
         key(1).to_uppercase(),
         key(9)
     );
-    let lines = found(0, 2) + &found(1, 4) + &format!("absent\t{}\t5\n", key(9));
-    let words = ["3 rows: 2 found, 1 absent, 0 refused; 0 duplicate"];
-    for column in [&["--column", "the, key"][..], &["--column=2"]] {
-        find(&folder, list.as_bytes(), column).expect(1, &lines, &words);
+    let lines = found(0, 2) + "refused\t\t3\n" + &found(1, 4) + &absent(&key(9), 5);
+    let words = [
+        "list.csv: row 3: the row is empty",
+        "5 rows, row 1 is the header (id,\"the, key\",note): 2 found, 1 absent, 0 unknown, \
+         1 refused; 0 duplicate",
+    ];
+    for column in [
+        &["--column-name", "the, key"][..],
+        &["--column=2", "--header"],
+    ] {
+        find(&folder, list.as_bytes(), column).expect(2, &lines, &words);
     }
-    let json = find(&folder, list.as_bytes(), &["--column=2", "--json"]);
-    let summary = "{\"answer\":\"summary\",\"rows\":3,\"found\":2,\"absent\":1,\"refused\":0,\"duplicate\":0}\n";
-    assert!(json.lines.ends_with(summary), "{}", json.lines);
-    assert_eq!((json.status, json.errors.as_str()), (1, ""));
-    let marked = [b"\xef\xbb\xbf", list.as_bytes()].concat();
-    find(&folder, &marked, &["--column", "the, key"]).expect(1, &lines, &words);
-    let tabs = format!("id\tkey\n1\t{}\n", key(2));
-    find(&folder, tabs.as_bytes(), &["--column", "key"]).expect(
-        0,
-        &found(2, 2),
-        &["1 rows: 1 found"],
+    let json = find(
+        &folder,
+        list.as_bytes(),
+        &["--column=2", "--json", "--header"],
     );
+    let summary = "{\"answer\":\"summary\",\"rows\":5,\"header_row\":1,\
+        \"header\":\"id,\\\"the, key\\\",note\",\"found\":2,\"absent\":1,\"unknown\":0,\
+        \"refused\":1,\"duplicate\":0}\n";
+    assert!(json.lines.ends_with(summary), "{}", json.lines);
+}
+
+/// A separator in a row of a list of one column cuts nothing off.
+#[test]
+fn a_separator_in_a_list_of_one_column() {
+    let folder = folder("worklist_cut");
+    let lists = [
+        (
+            "417,5",
+            "the row has 2 fields by the separator \",\" (417, 5), and row 1 has 1",
+        ),
+        (
+            "1,349,477",
+            "the row has 3 fields by the separator \",\" (1, 349, 477), and row 1 has 1",
+        ),
+        (
+            "417,",
+            "the row has 2 fields by the separator \",\" (417, ), and row 1 has 1",
+        ),
+    ];
+    for (row, words) in lists {
+        let said = root(&folder, format!("417\n{row}\n418\n").as_bytes(), &[]);
+        let refused = ("refused", row, "2");
+        let answered = answers(&said.lines);
+        assert_eq!(answered[1], refused);
+        assert_eq!(
+            (answered[0].1, answered[2].1, answered.len()),
+            ("417", "418", 3)
+        );
+        assert!(said.errors.contains(words), "{}", said.errors);
+        assert!(
+            said.errors
+                .contains("3 rows, no header: 2 found, 0 absent, 0 unknown, 1 refused")
+        );
+        assert_eq!(said.status, 2);
+    }
+    for first in ["417,418,419", "417,5", "FileDataID,name"] {
+        let words = format!("list.csv: it has the columns {}", first.replace(',', ", "));
+        let said = root(&folder, first.as_bytes(), &[]);
+        said.expect(
+            64,
+            "",
+            &[&words, "--column N or --column-name NAME says which"],
+        );
+    }
+}
+
+/// Every kind of line end, and none behind the last row.
+#[test]
+fn line_ends() {
+    let folder = folder("worklist_ends");
+    for end in ["\n", "\r\n", "\r"] {
+        let list = [key(0), key(1), key(2)].join(end);
+        let lines = found(0, 1) + &found(1, 2) + &found(2, 3);
+        for list in [list.clone(), list + end] {
+            find(&folder, list.as_bytes(), &[]).expect(0, &lines, &["3 rows, no header: 3 found"]);
+        }
+    }
+    let mixed = format!("{}\r{}\r\n\n{}", key(0), key(1), key(2));
+    let lines = found(0, 1) + &found(1, 2) + "refused\t\t3\n" + &found(2, 4);
+    find(&folder, mixed.as_bytes(), &[]).expect(2, &lines, &["row 3: the row is empty"]);
+    let trailing = format!("{}\n\n", key(0));
+    let lines = found(0, 1) + "refused\t\t2\n";
+    find(&folder, trailing.as_bytes(), &[]).expect(2, &lines, &["row 2: the row is empty"]);
+}
+
+#[test]
+fn a_list_without_rows() {
+    let folder = folder("worklist_empty");
+    for (list, options, words) in [
+        ("", &[][..], "list.csv: it is empty, and has no row"),
+        ("\u{feff}", &[], "list.csv: it is empty, and has no row"),
+        (
+            "ekey\n",
+            &[],
+            "row 1 is the header (ekey), and there is no other row",
+        ),
+        (
+            "00\n",
+            &["--header"],
+            "row 1 is the header (00), and there is no other row",
+        ),
+        (
+            "id,key",
+            &["--column-name=key"],
+            "row 1 is the header (id,key), and there is no other",
+        ),
+    ] {
+        let refused = "refused\tlist.csv\t-\t-\n";
+        find(&folder, list.as_bytes(), options).expect(2, refused, &[words]);
+    }
+    find(&folder, b"\n", &[]).expect(
+        2,
+        "refused\t\t1\n",
+        &["row 1: the row is empty", "1 row, no"],
+    );
+}
+
+/// A number is a position, even where a field of the first row reads so.
+#[test]
+fn columns_by_position() {
+    let folder = folder("worklist_position");
+    let said = root(&folder, b"2,418\n3,419\n", &["--column", "2"]);
+    let answered = [("found", "418", "1"), ("found", "419", "2")];
+    assert_eq!((answers(&said.lines), said.status), (answered.to_vec(), 0));
+    let said = root(&folder, b"2,418\n3,419\n", &["--column-name", "2"]);
+    let answered = [("absent", "3", "2")];
+    assert_eq!((answers(&said.lines), said.status), (answered.to_vec(), 1));
+    assert!(
+        said.errors.contains("2 rows, row 1 is the header (2,418)"),
+        "{}",
+        said.errors
+    );
+}
+
+#[test]
+fn columns_that_are_not_there() {
+    let folder = folder("worklist_columns");
+    let list = |first: &str| format!("{first}\n1,{}\n", key(1));
+    for (first, option, words) in [
+        ("a,b", None, "list.csv: it has the columns a, b: --column N"),
+        (
+            "a,b",
+            Some("--column-name=c"),
+            "list.csv: it has no column c; it has a, b",
+        ),
+        (
+            "a,b",
+            Some("--column-name=1"),
+            "list.csv: it has no column 1; it has a, b",
+        ),
+        ("a,b", Some("--column=3"), "it has no column 3; it has a, b"),
+        ("a,b", Some("--column=0"), "--column counts from 1"),
+        (
+            "a,b",
+            Some("--column=b"),
+            "--column wants a number, not b; --column-name takes",
+        ),
+        (
+            "a,b",
+            Some("--column=01"),
+            "--column wants a number, not 01",
+        ),
+        (
+            "a,a",
+            Some("--column-name=a"),
+            "has two columns a: --column N says",
+        ),
+        ("\na,b", Some("--column-name=a"), "it has no column a"),
+    ] {
+        let option: Vec<_> = option.into_iter().collect();
+        find(&folder, list(first).as_bytes(), &option).expect(64, "", &[words]);
+    }
+    let both = ["--column=1", "--column-name=a"];
+    find(&folder, b"a", &both).expect(64, "", &["--column and --column-name are both given"]);
+    for option in ["--column=1", "--column-name=a", "--header", "--separator=;"] {
+        let name = option.split('=').next().expect("it has a name");
+        let words = format!("{name} wants --worklist beside it");
+        run(&folder, ["index", "find", "--index", "index", option]).expect(64, "", &[&words]);
+    }
+}
+
+/// A first row that is nearly a number or a key is a row, and refused.
+#[test]
+fn a_first_row_that_is_none_of_a_header() {
+    let folder = folder("worklist_first");
+    for text in [
+        "O417",
+        "417 ",
+        "41 7",
+        "l349477",
+        " 417",
+        "00417",
+        "deadbeef",
+        "face",
+        "cafe",
+        "+417",
+        "-1",
+        "x417",
+        "4.17E+2",
+        "Schl\u{fc}ssel",
+    ] {
+        let said = root(&folder, format!("{text}\n417\n").as_bytes(), &[]);
+        let answered = answers(&said.lines);
+        assert_eq!(answered[0], ("refused", text, "1"), "{}", said.lines);
+        assert_eq!((answered[1].1, answered.len(), said.status), ("417", 2, 2));
+        assert!(
+            said.errors.contains("2 rows, no header: 1 found"),
+            "{}",
+            said.errors
+        );
+    }
+    let spoilt = format!("{}g", &key(1)[1..]);
+    for text in [
+        &key(1)[1..],
+        &format!("{} ", key(1)),
+        &spoilt,
+        &format!("l{}", &key(1)[1..]),
+    ] {
+        let said = find(&folder, format!("{text}\n{}\n", key(1)).as_bytes(), &[]);
+        said.expect(
+            2,
+            &format!("refused\t{text}\t1\n{}", found(1, 2)),
+            &["2 rows, no header"],
+        );
+    }
+    let said = find(&folder, b"O417", &[]);
+    assert!(
+        said.errors
+            .contains("if row 1 is a header, --header says so"),
+        "{}",
+        said.errors
+    );
+}
+
+/// A plain word is a header, and the summary says so.
+#[test]
+fn headers() {
+    let folder = folder("worklist_headers");
+    for header in [
+        "FileDataID",
+        "file_number",
+        "ckey",
+        "encoding key",
+        "Key",
+        "id",
+        "EKey",
+        "file.1",
+        "\"Key\"",
+    ] {
+        let words = format!("2 rows, row 1 is the header ({header}): 1 found");
+        let list = format!("{header}\n{}\n", key(1));
+        find(&folder, list.as_bytes(), &[]).expect(0, &found(1, 2), &[&words]);
+    }
+    let any = format!("{}\n{}\n", key(0), key(1));
+    let words = format!("2 rows, row 1 is the header ({}): 1 found", key(0));
+    find(&folder, any.as_bytes(), &["--header"]).expect(0, &found(1, 2), &[&words]);
+    let malformed = format!("\"a\"b\n{}\n", key(1));
+    let refused = "refused\tlist.csv\t-\t-\n";
+    let words = ["list.csv: row 1, the header, is malformed"];
+    find(&folder, malformed.as_bytes(), &["--header"]).expect(2, refused, &words);
+}
+
+/// Rows with another number of fields than the first, and malformed ones.
+#[test]
+fn rows_of_another_shape() {
+    let folder = folder("worklist_shape");
+    let [zero, one, two] = [key(0), key(1), key(2)];
+    let list =
+        format!("id,key\n0,{zero}\n1\n1,{one},x\n1,\"{one}\"x\n\n2,{two}\n3,\"{two}\n4,{one}\n");
+    let lines = found(0, 2)
+        + "refused\t1\t3\n"
+        + &format!("refused\t1,{one},x\t4\nrefused\t1,\"{one}\"x\t5\nrefused\t\t6\n")
+        + &found(2, 7)
+        + &format!("refused\t3,\"{two}\t8\n")
+        + &found(1, 9);
+    let after = list.find("\"x\n").expect("it is there") + 1;
+    let open = list.rfind('"').expect("it is there");
+    let words = [
+        "list.csv: row 3: the row has 1 field by the separator \",\" (1), and row 1 has 2",
+        "row 4: the row has 3 fields",
+        &format!("row 5: the row is malformed: \"x\" follows a closing quote, at byte {after}"),
+        "row 6: the row is empty",
+        &format!(
+            "row 8: the row is malformed: the quoted field that begins at byte {open} is never"
+        ),
+        "9 rows, row 1 is the header (id,key): 3 found, 0 absent, 0 unknown, 5 refused; 0 duplicate",
+    ];
+    find(&folder, list.as_bytes(), &["--column=2"]).expect(2, &lines, &words);
+    // The first row that can be read is the one that others are held against.
+    let list = format!("\n\"0\"0,{zero}\n0,{zero}\n1\n");
+    let lines = format!(
+        "refused\t\t1\nrefused\t\"0\"0,{zero}\t2\n{}refused\t1\t4\n",
+        found(0, 3)
+    );
+    let words = ["row 4: the row has 1 field by the separator \",\" (1), and row 3 has 2"];
+    find(&folder, list.as_bytes(), &["--column=2"]).expect(2, &lines, &words);
+    let open = format!("\"{one}\n{one}\n");
+    let lines = format!("refused\t\"{one}\t1\n{}", found(1, 2));
+    find(&folder, open.as_bytes(), &[]).expect(2, &lines, &["begins at byte 0 is never closed"]);
 }
 
 /// A short key is never padded and never a number; the rest is still answered.
@@ -73,86 +372,281 @@ fn rows_that_are_no_keys() {
         list += &format!("1,{text}\n");
         lines += &format!("refused\t{text}\t{row}\n");
     }
-    list += &format!("1\n2,{}\n3,{}\n", key(2), key(0).to_uppercase());
-    lines += &format!("refused\t\t10\n{}{}", found(2, 11), found(0, 12));
+    list += &format!("2,{}\n3,{}\n", key(2), key(0).to_uppercase());
+    lines += &(found(2, 10) + &found(0, 11));
     let words = [
         "list.csv: column key, row 3: \"00417\" has 5 characters, a key has 32",
-        "row 4: \"417\" has 3 characters, a key has 32",
-        "row 5: \"\" has 0 characters, a key has 32",
+        "row 4: \"417\" has 3 characters, a key has 32; is it a file number?",
+        "row 5: it is empty, a key has 32 characters",
         "has 33 characters, a key has 32",
         "is no key: refused 61 at 31: not a hex digit",
-        "row 9: \"4.17E+05\" has 8 characters",
-        "row 10: there are 1 columns only",
-        "11 rows: 3 found, 0 absent, 8 refused; 1 duplicate",
+        "row 8: \" x\" has 2 characters, a key has 32; there are blanks around it",
+        "row 9: \"4.17E+05\" has 8 characters, a key has 32; it looks like a number in scientific",
+        "11 rows, row 1 is the header (id,key): 3 found, 0 absent, 0 unknown, 7 refused; 1 duplicate",
     ];
-    let refused = find(&folder, list.as_bytes(), &["--column", "key"]);
+    let refused = find(&folder, list.as_bytes(), &["--column-name", "key"]);
     refused.expect(2, &lines, &words);
-    let json = find(&folder, list.as_bytes(), &["--column", "key", "--json"]).lines;
+    let json = find(&folder, list.as_bytes(), &["--column=2", "--json"]).lines;
     let object = r#"{"answer":"refused","text":"00417","row":3,"words":"list.csv: column key, row 3: \"00417\" has 5 characters, a key has 32"}"#;
     assert!(json.contains(object), "{json}");
 }
 
-/// Without a header the first row is a row: also where it is none of a key.
+/// What is no file number is refused with the words why.
 #[test]
-fn the_first_row() {
-    let folder = folder("worklist_first");
-    find(&folder, format!("{}\n", key(1)).as_bytes(), &[]).expect(
-        0,
-        &found(1, 1),
-        &["1 rows: 1 found"],
-    );
-    find(&folder, format!("ekey\n{}", key(1)).as_bytes(), &[]).expect(
-        0,
-        &found(1, 2),
-        &["1 rows: 1 found"],
-    );
-    let short = find(&folder, b"00417\n", &[]);
-    short.expect(
-        2,
-        "refused\t00417\t1\n",
-        &["column 1, row 1: \"00417\" has 5 characters"],
-    );
-    find(&folder, b"", &[]).expect(0, "", &["0 rows"]);
+fn rows_that_are_no_file_numbers() {
+    let folder = folder("worklist_numbers");
+    for (field, text, words) in [
+        (
+            "=\"00417\"",
+            "=\"00417\"",
+            "\"=\" is no digit; it is a spreadsheet formula",
+        ),
+        (
+            "\"=\"\"00417\"\"\"",
+            "=\"00417\"",
+            "it is a spreadsheet formula",
+        ),
+        ("'00417", "'00417", "an apostrophe stands before it"),
+        (
+            "4.17E+2",
+            "4.17E+2",
+            "scientific notation: format the column as text",
+        ),
+        ("4,17e5", "4,17e5", "the row has 2 fields"),
+        (
+            "\"1,349,477\"",
+            "1,349,477",
+            "\",\" is no digit; its digits stand in groups",
+        ),
+        ("1.349.477", "1.349.477", "its digits stand in groups"),
+        ("417.0", "417.0", "it looks like a fraction"),
+        (" 417", " 417", "there are blanks around it"),
+        ("417 ", "417 ", "there are blanks around it"),
+        ("\"417\t\"", "417\\t", "there are blanks around it"),
+        ("41 7", "41 7", "there are blanks in it"),
+        (
+            "00417",
+            "00417",
+            "leading zero: a file number has none; is it a key?",
+        ),
+        ("+417", "+417", "a sign stands before it"),
+        ("-1", "-1", "a sign stands before it"),
+        ("0x1A1", "0x1A1", "0x stands before it"),
+        (
+            "\u{ff14}\u{ff11}\u{ff17}",
+            "\u{ff14}\u{ff11}\u{ff17}",
+            "such as full-width ones",
+        ),
+        ("O417", "O417", "it has a letter that looks like a digit"),
+        ("4294967296", "4294967296", "it is above 4294967295"),
+        ("\"\"", "", "it is empty, and no file number"),
+        (
+            "4\u{0}1\u{0}",
+            "4\\x001\\x00",
+            "it has zero bytes: is the file UTF-16?",
+        ),
+        ("42x", "42x", "\"42x\" is no file number: \"x\" is no digit"),
+    ] {
+        let said = root(&folder, format!("417\n{field}\n418\n").as_bytes(), &[]);
+        let answered = answers(&said.lines);
+        assert_eq!(answered[1], ("refused", text, "2"), "{}", said.lines);
+        assert_eq!((answered[2].2, answered.len(), said.status), ("3", 3, 2));
+        assert!(said.errors.contains(words), "{}", said.errors);
+    }
 }
 
 #[test]
-fn columns_that_are_not_there() {
-    let folder = folder("worklist_columns");
-    let list = |first: &str| format!("{first}\n1,{}\n", key(1));
-    for (list, column, words) in [
-        (
-            list("a,b"),
-            None,
-            "list.csv has the columns a, b: --column says which",
-        ),
-        (
-            list("a,b"),
-            Some("c"),
-            "list.csv has no column c; it has a, b",
-        ),
-        (list("a,b"), Some("3"), "has no column 3"),
-        (list("a,b"), Some("0"), "has no column 0"),
-        (list("a,a"), Some("a"), "has two columns a"),
+fn separators() {
+    let folder = folder("worklist_separators");
+    let [zero, one] = [key(0), key(1)];
+    for (separator, option) in [
+        (",", ","),
+        (";", ";"),
+        ("|", "|"),
+        ("\t", "tab"),
+        ("\t", "\t"),
+        (" ", " "),
+        ("0", "0"),
+        ("\0", "\u{1}"),
     ] {
-        let column = column.map(|column| format!("--column={column}"));
-        let column: Vec<_> = column.iter().map(String::as_str).collect();
-        find(&folder, list.as_bytes(), &column).expect(64, "", &[words]);
+        let separator = if separator == "\0" {
+            "\u{1}"
+        } else {
+            separator
+        };
+        let list = format!("\"x\"{separator}\"{zero}\"\n\"y\"{separator}\"{one}\"\n");
+        let options = ["--column=2", "--separator", option];
+        let lines = found(0, 1) + &found(1, 2);
+        find(&folder, list.as_bytes(), &options).expect(0, &lines, &["2 rows, no header: 2 found"]);
+    }
+    // A tab separates where the first row has one and no comma.
+    let tabs = format!("id\tkey\n1,5\t{one}\n");
+    let lines = found(1, 2);
+    find(&folder, tabs.as_bytes(), &["--column-name=key"]).expect(0, &lines, &["2 rows, row 1"]);
+    let both = format!("id\t1,{zero}\nid,{one}\n");
+    let lines = found(0, 1) + &found(1, 2);
+    find(&folder, both.as_bytes(), &["--column=2"]).expect(0, &lines, &["2 rows"]);
+    for (given, words) in [
+        (
+            "\"",
+            "--separator: \" cannot stand between fields, nor can a quote, CR or LF: refused 11",
+        ),
+        ("\n", "--separator: \\n cannot stand between fields"),
+        ("\r", "--separator: \\r cannot stand between fields"),
+        (
+            "",
+            "--separator wants one character of one byte, or tab, not ",
+        ),
+        (
+            ",,",
+            "--separator wants one character of one byte, or tab, not ,,",
+        ),
+        (
+            "\u{a7}",
+            "--separator wants one character of one byte, or tab, not \u{a7}",
+        ),
+    ] {
+        find(&folder, b"x", &["--separator", given]).expect(64, "", &[words]);
+    }
+}
+
+/// Where all rows look separated by another byte, the words say so.
+#[test]
+fn a_hint_of_another_separator() {
+    let folder = folder("worklist_hint");
+    for (separator, given, named) in [(";", "';'", "\";\""), ("|", "'|'", "\"|\"")] {
+        let list = format!("417{separator}x\n418{separator}\"y\nz\"\n");
+        let hint = format!("all rows look separated by {named}: --separator {given} reads them so");
+        let said = root(&folder, list.as_bytes(), &[]);
+        assert_eq!(
+            (answers(&said.lines).len(), said.status),
+            (3, 2),
+            "{}",
+            said.lines
+        );
+        assert_eq!(said.errors.matches(&hint).count(), 3, "{}", said.errors);
+        let said = root(&folder, list.as_bytes(), &["--column=2"]);
+        said.expect(64, "", &["it has no column 2", &hint]);
+        let said = root(&folder, list.as_bytes(), &["--column-name=x"]);
+        said.expect(64, "", &["it has no column x", &hint]);
+    }
+    let tabs = root(
+        &folder,
+        b"417\tx\n418\ty\n",
+        &["--column=1", "--separator=,"],
+    );
+    assert!(
+        tabs.errors
+            .contains("separated by a tab: --separator tab reads"),
+        "{}",
+        tabs.errors
+    );
+    let commas = root(&folder, b"417,x\n418,y\n\n", &["--separator=;"]);
+    assert!(
+        commas
+            .errors
+            .contains("separated by \",\": --separator ','"),
+        "{}",
+        commas.errors
+    );
+    // Not all rows have as many.
+    for list in ["417;x\n418\n", "417;x\n418;y;z\n", "417\n418 \n"] {
+        let said = root(&folder, list.as_bytes(), &[]);
+        assert!(!said.errors.contains("--separator"), "{}", said.errors);
+    }
+}
+
+#[test]
+fn marks_of_encodings() {
+    let folder = folder("worklist_marks");
+    let utf_16 = |list: &str, bytes: fn(u16) -> [u8; 2]| -> Vec<u8> {
+        list.encode_utf16().flat_map(bytes).collect()
+    };
+    let utf_32 = |list: &str, bytes: fn(u32) -> [u8; 4]| -> Vec<u8> {
+        list.chars()
+            .flat_map(|letter| bytes(letter.into()))
+            .collect()
+    };
+    let list = format!("\u{feff}{}\n", key(1));
+    for (bytes, name) in [
+        (utf_16(&list, u16::to_le_bytes), "UTF-16, little-endian"),
+        (utf_16(&list, u16::to_be_bytes), "UTF-16, big-endian"),
+        (utf_32(&list, u32::to_le_bytes), "UTF-32, little-endian"),
+        (utf_32(&list, u32::to_be_bytes), "UTF-32, big-endian"),
+    ] {
+        let words = format!("list.csv: by its first bytes it is {name}: save it as UTF-8");
+        find(&folder, &bytes, &[]).expect(2, "refused\tlist.csv\t-\t-\n", &[&words]);
+    }
+    let words = [
+        "list.csv: it begins with the byte-order mark of UTF-8",
+        "1 row, no header",
+    ];
+    find(&folder, list.as_bytes(), &[]).expect(0, &found(1, 1), &words);
+    // Places count the mark too.
+    let open = format!("{list}\"x\n");
+    let at = open.len() - 3;
+    let lines = found(1, 1) + "refused\t\"x\t2\n";
+    let words = format!("begins at byte {at} is never closed");
+    find(&folder, open.as_bytes(), &[]).expect(2, &lines, &[&words]);
+}
+
+/// What no index has is unknown where an index could not be searched.
+#[test]
+fn unknown_rows() {
+    let folder = folder("worklist_unknown");
+    put(&folder, "bad", "short");
+    let list = format!("{}\n{}\n00417\n\n", key(1), key(9));
+    let rest = format!("unknown\t{}\t2\nrefused\t00417\t3\nrefused\t\t4\n", key(9));
+    let words = ["4 rows, no header: 1 found, 0 absent, 1 unknown, 2 refused; 0 duplicate"];
+    let bad = find(&folder, list.as_bytes(), &["--index", "bad"]);
+    bad.expect(2, &(found(1, 1) + "refused\tbad\t1\t0\n" + &rest), &words);
+    let missing = find(&folder, list.as_bytes(), &["--index", "missing"]);
+    missing.expect(3, &(found(1, 1) + "failed\tmissing\n" + &rest), &words);
+    let all = ["index", "find", "--index", "bad", "--worklist", "list.csv"];
+    let lines = format!("refused\tbad\t1\t0\nunknown\t{}\t1\n{rest}", key(1));
+    let words = ["4 rows, no header: 0 found, 0 absent, 2 unknown, 2 refused; 0 duplicate"];
+    run(&folder, all).expect(2, &lines, &words);
+}
+
+/// The four commands count rows and duplicates by one rule.
+#[test]
+fn all_commands_take_worklists() {
+    let sample = sample();
+    let counts = |command: &str, column: &str| {
+        let list = [
+            "--worklist",
+            "worklist.csv",
+            "--column-name",
+            column,
+            "--json",
+        ];
+        let said = run(&sample, command.split(' ').chain(list)).lines;
+        let summary = said.lines().last().expect("it has a summary").to_string();
+        let words: Vec<_> = summary.split(",\"found\"").map(str::to_string).collect();
+        assert!(words[0].ends_with("\"rows\":22,\"header_row\":1,\"header\":\"name,file,key\""));
+        assert_eq!(said.lines().count(), 22, "{said}");
+        words[1].clone()
+    };
+    let build = "--root root-v1 --encoding encoding --index archives";
+    let resolved = counts(&format!("resolve {build}"), "file");
+    assert_eq!(
+        resolved,
+        ":13,\"absent\":2,\"unknown\":0,\"refused\":6,\"duplicate\":1}"
+    );
+    assert_eq!(counts("root find root-v1", "file"), resolved);
+    for (command, column) in [
+        ("root find root-v1", "file"),
+        ("index find --index archives", "key"),
+        ("encoding find --encoding-keys encoding", "key"),
+    ] {
+        assert_eq!(counts(command, column), resolved, "{command}");
     }
 }
 
 #[test]
 fn lists_that_cannot_be_read() {
-    let folder = folder("worklist_bad");
-    let open = format!("1,\"{}\n", key(1));
-    let after = format!("1,\"00\"{}\n", key(1));
-    for (list, words) in [
-        (open.as_bytes(), "row 1: a quoted field is not closed"),
-        (after.as_bytes(), "row 1: something follows a closed quote"),
-        (b"\xff\xfea\0", "UTF-16"),
-    ] {
-        let refused = "refused\tlist.csv\t-\t-\n";
-        find(&folder, list, &["--column=2"]).expect(2, refused, &[words]);
-    }
+    let folder = folder("worklist_missing");
+    put(&folder, "index", index(W4, 3, 0));
     let missing = ["index", "find", "--index", "index", "--worklist", "missing"];
     run(&folder, missing).expect(3, "failed\tmissing\n", &["cannot read missing"]);
 }
