@@ -8,6 +8,8 @@ mod header;
 mod mark;
 mod separator;
 mod shape;
+#[cfg(test)]
+mod tests;
 
 use std::borrow::Cow;
 use std::ffi::{OsStr, OsString};

@@ -41,6 +41,15 @@ impl Asked {
             column,
         })
     }
+
+    /// A column by its position, from 0.
+    #[cfg(test)]
+    pub fn at(position: usize, header: bool) -> Self {
+        Self {
+            column: Column::Position(position),
+            header,
+        }
+    }
 }
 
 /// The position of the column, from 0.
