@@ -215,6 +215,8 @@ fn compare_record(file: &[u8], line: &str) {
     let (id, locale, content) = (number(0), number(1), u64::from(number(2)));
     let found = root::find(file, id, locale, 0).unwrap().unwrap();
     assert_eq!(hex(&found.key), words[3], "{line}");
+    let many = root::find_many(file, &id.to_be_bytes(), locale, 0).unwrap();
+    assert_eq!(hex(&many), format!("01000000{}", words[3]), "{line}");
     let found = root::find(file, id, locale, content).unwrap();
     assert_eq!(found.is_none(), content > 0, "{line}");
 }
