@@ -80,8 +80,8 @@ impl<'a> Searched<'a> {
     }
 
     /// Takes what one index has: the first index that has a key answers.
-    fn take(&mut self, name: &OsStr, finds: Finds<'_>) {
-        let length = finds.settings.key_length;
+    fn take(&mut self, name: &OsStr, finds: Finds) {
+        let length = finds.key_length;
         if self.key_lengths.iter().all(|(known, _)| *known != length) {
             self.key_lengths.push((length, name.to_owned()));
         }
@@ -91,8 +91,15 @@ impl<'a> Searched<'a> {
     }
 }
 
-/// A sought key and its number.
-type Numbered = (Key, usize);
+/// A sought key, with zeros behind it, and its number.
+type Numbered = ([u8; 16], usize);
+
+/// Keys of one length are in the order of these numbers.
+fn rank(key: &[u8]) -> u128 {
+    let mut padded = [0; 16];
+    padded[..key.len()].copy_from_slice(key);
+    u128::from_be_bytes(padded)
+}
 
 /// The sought keys.
 struct Sought {
@@ -107,7 +114,8 @@ impl Sought {
         let mut rising = vec![Vec::new(); 17];
         for (number, key) in keys.iter().enumerate() {
             if let Some(key) = key {
-                rising[key.as_bytes().len()].push((*key, number));
+                let bytes = key.as_bytes();
+                rising[bytes.len()].push((rank(bytes).to_be_bytes(), number));
             }
         }
         for keys in &mut rising {
@@ -123,8 +131,8 @@ impl Sought {
     /// The keys of a length that stand from this key to that one.
     fn between(&self, first: &[u8], last: &[u8]) -> &[Numbered] {
         let keys = &self.rising[first.len()];
-        let start = keys.partition_point(|(key, _)| key.as_bytes() < first);
-        let end = keys.partition_point(|(key, _)| key.as_bytes() <= last);
+        let start = keys.partition_point(|(key, _)| rank(key) < rank(first));
+        let end = keys.partition_point(|(key, _)| rank(key) <= rank(last));
         &keys[start..end]
     }
 }
@@ -169,123 +177,135 @@ pub fn search<'a>(
 }
 
 /// What one index has of the sought keys.
-struct Finds<'a> {
-    sought: &'a Sought,
-    /// The number of the index.
-    index: usize,
-    settings: Settings,
+struct Finds {
+    key_length: u8,
     /// The numbers of the keys, and their places.
     found: Vec<(usize, Place)>,
 }
 
 /// Searches the keys in one index.
-fn search_one<'a>(
-    index: usize,
+fn search_one(
+    number: usize,
     name: &OsStr,
     before: Before,
-    sought: &'a Sought,
-) -> Result<Finds<'a>, Failure> {
+    sought: &Sought,
+) -> Result<Finds, Failure> {
     let file = IndexFile::read(name)?;
-    let finds = |settings| Finds {
+    let refused = |refusal| file.refused(refusal);
+    let search = |settings| One {
         sought,
-        index,
+        number,
         settings,
-        found: Vec::new(),
     };
-    match before {
+    let (settings, found) = match before {
         Before::FullCheck => {
             let index = file.check()?;
-            Ok(finds(index.settings()).of_checked(index))
+            let settings = index.settings();
+            (settings, search(settings).checked(index))
         }
         Before::FooterAndLength => {
             let index = file.unchecked();
-            let found = index.summary();
-            let found = found.and_then(|summary| finds(summary.settings).of_unchecked(index));
-            found.map_err(|refusal| file.refused(refusal))
+            let settings = index.summary().map_err(refused)?.settings;
+            let found = search(settings).unchecked(index);
+            (settings, found.map_err(refused)?)
         }
-    }
+    };
+    Ok(Finds {
+        key_length: settings.key_length,
+        found,
+    })
 }
 
-impl Finds<'_> {
+/// The search of one index.
+struct One<'a> {
+    sought: &'a Sought,
+    /// The number of the index.
+    number: usize,
+    settings: Settings,
+}
+
+impl One<'_> {
     /// Of the sought keys, those between the index's first and last are looked up one by one where
     /// they are few beside its entries. Else its list is gone through once, as both rise.
-    fn of_checked(mut self, index: CheckedIndex<'_>) -> Self {
+    fn checked(&self, index: CheckedIndex<'_>) -> Vec<(usize, Place)> {
         let entries = index.summary().entries;
         let ends = [0, entries.saturating_sub(1)].map(|number| index.entry(number as u64));
         let [Some(first), Some(last)] = ends else {
-            return self;
+            return Vec::new();
         };
         let keys = self.sought.between(first.key, last.key);
         if keys.len() > entries / 2 {
-            self.go_through(index, entries, keys);
-            return self;
+            return self.go_through(index, entries, keys);
         }
-        for (key, number) in keys {
-            if self.is_wanted(*number) {
-                let found = index.find(key).expect("the key has the index's length");
-                let entry = found
-                    .found()
-                    .and_then(|at| index.entry_at(at.page, at.slot));
-                self.take(*number, entry);
-            }
-        }
-        self
+        let wanted = keys.iter().filter(|key| self.is_wanted(key));
+        let found = wanted.filter_map(|key| {
+            let found = index.find(&key.0[..first.key.len()]);
+            let at = found.expect("it has the index's length").found()?;
+            Some(self.place(key, &index.entry_at(at.page, at.slot)?))
+        });
+        found.collect()
     }
 
     /// All keys of the index's length are looked up: its order is not known.
-    fn of_unchecked(mut self, index: UncheckedIndex<'_>) -> Result<Self, Refusal> {
-        for (key, number) in &self.sought.rising[usize::from(self.settings.key_length)] {
-            if self.is_wanted(*number)
-                && let Lookup::Found(at) = index.find(key)?
-            {
-                self.take(*number, index.entry_at(at.page, at.slot)?);
-            }
-        }
-        Ok(self)
+    fn unchecked(&self, index: UncheckedIndex<'_>) -> Result<Vec<(usize, Place)>, Refusal> {
+        let length = usize::from(self.settings.key_length);
+        let keys = self.sought.rising[length].iter();
+        let wanted = keys.filter(|key| self.is_wanted(key));
+        let found = wanted.filter_map(|key| {
+            let entry = match index.find(&key.0[..length]) {
+                Ok(Lookup::Absent { .. }) => return None,
+                Ok(Lookup::Found(at)) => index.entry_at(at.page, at.slot).transpose()?,
+                Err(refusal) => Err(refusal),
+            };
+            Some(entry.map(|entry| self.place(key, &entry)))
+        });
+        found.collect()
     }
 
-    fn go_through(&mut self, index: CheckedIndex<'_>, entries: usize, mut keys: &[Numbered]) {
+    fn go_through(
+        &self,
+        index: CheckedIndex<'_>,
+        entries: usize,
+        mut keys: &[Numbered],
+    ) -> Vec<(usize, Place)> {
         let list = index.list();
         let key_length = usize::from(self.settings.key_length);
+        let mut found = Vec::new();
         for (number, entry) in (0..).zip(list.chunks_exact(list.len() / entries)) {
-            let key = &entry[..key_length];
+            let key = rank(&entry[..key_length]);
             keys = &keys[below(keys, key)..];
-            let same = keys.iter().take_while(|(other, _)| other.as_bytes() == key);
-            let wanted = same.filter(|(_, number)| self.is_wanted(*number));
-            let wanted: Vec<_> = wanted.map(|(_, number)| *number).collect();
-            self.take_all(&wanted, || index.entry(number));
+            let same = keys.iter().take_while(|(other, _)| rank(other) == key);
+            let mut wanted = same.filter(|key| self.is_wanted(key)).peekable();
+            if wanted.peek().is_some() {
+                let entry = index.entry(number).expect("the list has it");
+                found.extend(wanted.map(|key| self.place(key, &entry)));
+            }
         }
+        found
     }
 
-    /// Whether no index before this one has the key of this number.
-    fn is_wanted(&self, number: usize) -> bool {
-        self.sought.first[number].load(Ordering::Relaxed) >= self.index
+    /// Whether no index before this one has the key.
+    fn is_wanted(&self, (_, number): &Numbered) -> bool {
+        self.sought.first[*number].load(Ordering::Relaxed) >= self.number
     }
 
-    /// Takes the entry of some keys, which are the same key.
-    fn take_all<'a>(&mut self, numbers: &[usize], entry: impl Fn() -> Option<IndexEntry<'a>>) {
-        for number in numbers {
-            self.take(*number, entry());
-        }
-    }
-
-    fn take(&mut self, number: usize, entry: Option<IndexEntry<'_>>) {
-        let Some(entry) = entry else { return };
-        self.sought.first[number].fetch_min(self.index, Ordering::Relaxed);
+    /// The place of a key that this index has.
+    fn place(&self, (_, number): &Numbered, entry: &IndexEntry<'_>) -> (usize, Place) {
+        self.sought.first[*number].fetch_min(self.number, Ordering::Relaxed);
         let place = Place {
-            index: self.index,
+            index: self.number,
             settings: self.settings,
             size: entry.size,
             archive: entry.archive,
             offset: entry.offset,
         };
-        self.found.push((number, place));
+        (*number, place)
     }
 }
 
 /// How many of these keys, which rise, are below this one. It is quick where they are few.
-fn below(keys: &[Numbered], key: &[u8]) -> usize {
-    let is_below = |(other, _): &Numbered| other.as_bytes() < key;
+fn below(keys: &[Numbered], key: u128) -> usize {
+    let is_below = |(other, _): &Numbered| rank(other) < key;
     let mut end = 1;
     while keys.get(end).is_some_and(is_below) {
         end *= 2;
