@@ -79,39 +79,31 @@ fn a_column_of_quoted_rows() {
     assert!(json.lines.ends_with(summary), "{}", json.lines);
 }
 
+/// Rows with a separator in a list of one column, and the fields that they have.
+const CUT: [(&str, &str); 3] = [
+    ("417,5", "2 fields by the separator \",\" (417, 5)"),
+    ("1,349,477", "3 fields by the separator \",\" (1, 349, 477)"),
+    ("417,", "2 fields by the separator \",\" (417, )"),
+];
+
 /// A separator in a row of a list of one column cuts nothing off.
 #[test]
 fn a_separator_in_a_list_of_one_column() {
     let folder = folder("worklist_cut");
-    let lists = [
-        (
-            "417,5",
-            "the row has 2 fields by the separator \",\" (417, 5), and row 1 has 1",
-        ),
-        (
-            "1,349,477",
-            "the row has 3 fields by the separator \",\" (1, 349, 477), and row 1 has 1",
-        ),
-        (
-            "417,",
-            "the row has 2 fields by the separator \",\" (417, ), and row 1 has 1",
-        ),
-    ];
-    for (row, words) in lists {
+    for (row, fields) in CUT {
         let said = root(&folder, format!("417\n{row}\n418\n").as_bytes(), &[]);
-        let refused = ("refused", row, "2");
-        let answered = answers(&said.lines);
-        assert_eq!(answered[1], refused);
-        assert_eq!(
-            (answered[0].1, answered[2].1, answered.len()),
-            ("417", "418", 3)
-        );
-        assert!(said.errors.contains(words), "{}", said.errors);
-        assert!(
-            said.errors
-                .contains("3 rows, no header: 2 found, 0 absent, 0 unknown, 1 refused")
-        );
-        assert_eq!(said.status, 2);
+        let answered = [
+            ("found", "417", "1"),
+            ("refused", row, "2"),
+            ("found", "418", "3"),
+        ];
+        assert_eq!((answers(&said.lines), said.status), (answered.to_vec(), 2));
+        for words in [
+            &format!("the row has {fields}, and row 1 has 1"),
+            "3 rows, no header: 2 found, 0 absent, 0 unknown, 1 refused",
+        ] {
+            assert!(said.errors.contains(words), "{}", said.errors);
+        }
     }
     for first in ["417,418,419", "417,5", "FileDataID,name"] {
         let words = format!("list.csv: it has the columns {}", first.replace(',', ", "));
@@ -192,46 +184,47 @@ fn columns_by_position() {
     );
 }
 
+/// The first row of a list of two columns, an option, and what is wrong.
+const NO_COLUMNS: [(&str, &[&str], &str); 10] = [
+    ("a,b", &[], "list.csv: it has the columns a, b: --column N"),
+    (
+        "a,b",
+        &["--column-name=c"],
+        "list.csv: it has no column c; it has a, b",
+    ),
+    (
+        "a,b",
+        &["--column-name=1"],
+        "list.csv: it has no column 1; it has a, b",
+    ),
+    ("a,b", &["--column=3"], "it has no column 3; it has a, b"),
+    ("a,b", &["--column=0"], "--column counts from 1"),
+    (
+        "a,b",
+        &["--column=b"],
+        "--column wants a number, not b; --column-name takes",
+    ),
+    ("a,b", &["--column=01"], "--column wants a number, not 01"),
+    (
+        "a,a",
+        &["--column-name=a"],
+        "has two columns a: --column N says",
+    ),
+    ("\na,b", &["--column-name=a"], "it has no column a"),
+    (
+        "a,b",
+        &["--column=1", "--column-name=a"],
+        "--column and --column-name are both given",
+    ),
+];
+
 #[test]
 fn columns_that_are_not_there() {
     let folder = folder("worklist_columns");
-    let list = |first: &str| format!("{first}\n1,{}\n", key(1));
-    for (first, option, words) in [
-        ("a,b", None, "list.csv: it has the columns a, b: --column N"),
-        (
-            "a,b",
-            Some("--column-name=c"),
-            "list.csv: it has no column c; it has a, b",
-        ),
-        (
-            "a,b",
-            Some("--column-name=1"),
-            "list.csv: it has no column 1; it has a, b",
-        ),
-        ("a,b", Some("--column=3"), "it has no column 3; it has a, b"),
-        ("a,b", Some("--column=0"), "--column counts from 1"),
-        (
-            "a,b",
-            Some("--column=b"),
-            "--column wants a number, not b; --column-name takes",
-        ),
-        (
-            "a,b",
-            Some("--column=01"),
-            "--column wants a number, not 01",
-        ),
-        (
-            "a,a",
-            Some("--column-name=a"),
-            "has two columns a: --column N says",
-        ),
-        ("\na,b", Some("--column-name=a"), "it has no column a"),
-    ] {
-        let option: Vec<_> = option.into_iter().collect();
-        find(&folder, list(first).as_bytes(), &option).expect(64, "", &[words]);
+    for (first, options, words) in NO_COLUMNS {
+        let list = format!("{first}\n1,{}\n", key(1));
+        find(&folder, list.as_bytes(), options).expect(64, "", &[words]);
     }
-    let both = ["--column=1", "--column-name=a"];
-    find(&folder, b"a", &both).expect(64, "", &["--column and --column-name are both given"]);
     for option in ["--column=1", "--column-name=a", "--header", "--separator=;"] {
         let name = option.split('=').next().expect("it has a name");
         let words = format!("{name} wants --worklist beside it");
@@ -239,44 +232,42 @@ fn columns_that_are_not_there() {
     }
 }
 
+/// Texts that are no file numbers, and no headers either.
+const NEAR_NUMBERS: [&str; 14] = [
+    "O417",
+    "417 ",
+    "41 7",
+    "l349477",
+    " 417",
+    "00417",
+    "deadbeef",
+    "face",
+    "cafe",
+    "+417",
+    "-1",
+    "x417",
+    "4.17E+2",
+    "Schl\u{fc}ssel",
+];
+
 /// A first row that is nearly a number or a key is a row, and refused.
 #[test]
 fn a_first_row_that_is_none_of_a_header() {
     let folder = folder("worklist_first");
-    for text in [
-        "O417",
-        "417 ",
-        "41 7",
-        "l349477",
-        " 417",
-        "00417",
-        "deadbeef",
-        "face",
-        "cafe",
-        "+417",
-        "-1",
-        "x417",
-        "4.17E+2",
-        "Schl\u{fc}ssel",
-    ] {
+    for text in NEAR_NUMBERS {
         let said = root(&folder, format!("{text}\n417\n").as_bytes(), &[]);
-        let answered = answers(&said.lines);
-        assert_eq!(answered[0], ("refused", text, "1"), "{}", said.lines);
-        assert_eq!((answered[1].1, answered.len(), said.status), ("417", 2, 2));
+        let answered = [("refused", text, "1"), ("found", "417", "2")];
+        assert_eq!((answers(&said.lines), said.status), (answered.to_vec(), 2));
         assert!(
             said.errors.contains("2 rows, no header: 1 found"),
             "{}",
             said.errors
         );
     }
-    let spoilt = format!("{}g", &key(1)[1..]);
-    for text in [
-        &key(1)[1..],
-        &format!("{} ", key(1)),
-        &spoilt,
-        &format!("l{}", &key(1)[1..]),
-    ] {
-        let said = find(&folder, format!("{text}\n{}\n", key(1)).as_bytes(), &[]);
+    let (whole, short) = (key(1), &key(1)[1..]);
+    let blank = format!("{whole} ");
+    for text in [short, &blank, &format!("{short}g"), &format!("l{short}")] {
+        let said = find(&folder, format!("{text}\n{whole}\n").as_bytes(), &[]);
         said.expect(
             2,
             &format!("refused\t{text}\t1\n{}", found(1, 2)),
@@ -391,121 +382,132 @@ fn rows_that_are_no_keys() {
     assert!(json.contains(object), "{json}");
 }
 
+/// Fields that are no file numbers, their text as answers show it, and the words why.
+const NO_NUMBERS: [(&str, &str, &str); 22] = [
+    (
+        "=\"00417\"",
+        "=\"00417\"",
+        "\"=\" is no digit; it is a spreadsheet formula",
+    ),
+    (
+        "\"=\"\"00417\"\"\"",
+        "=\"00417\"",
+        "it is a spreadsheet formula",
+    ),
+    ("'00417", "'00417", "an apostrophe stands before it"),
+    (
+        "4.17E+2",
+        "4.17E+2",
+        "scientific notation: format the column as text",
+    ),
+    ("4,17e5", "4,17e5", "the row has 2 fields"),
+    (
+        "\"1,349,477\"",
+        "1,349,477",
+        "\",\" is no digit; its digits stand in groups",
+    ),
+    ("1.349.477", "1.349.477", "its digits stand in groups"),
+    ("417.0", "417.0", "it looks like a fraction"),
+    (" 417", " 417", "there are blanks around it"),
+    ("417 ", "417 ", "there are blanks around it"),
+    ("\"417\t\"", "417\\t", "there are blanks around it"),
+    ("41 7", "41 7", "there are blanks in it"),
+    (
+        "00417",
+        "00417",
+        "leading zero: a file number has none; is it a key?",
+    ),
+    ("+417", "+417", "a sign stands before it"),
+    ("-1", "-1", "a sign stands before it"),
+    ("0x1A1", "0x1A1", "0x stands before it"),
+    (
+        "\u{ff14}\u{ff11}\u{ff17}",
+        "\u{ff14}\u{ff11}\u{ff17}",
+        "such as full-width ones",
+    ),
+    ("O417", "O417", "it has a letter that looks like a digit"),
+    ("4294967296", "4294967296", "it is above 4294967295"),
+    ("\"\"", "", "it is empty, and no file number"),
+    (
+        "4\u{0}1\u{0}",
+        "4\\x001\\x00",
+        "it has zero bytes: is the file UTF-16?",
+    ),
+    ("42x", "42x", "\"42x\" is no file number: \"x\" is no digit"),
+];
+
 /// What is no file number is refused with the words why.
 #[test]
 fn rows_that_are_no_file_numbers() {
     let folder = folder("worklist_numbers");
-    for (field, text, words) in [
-        (
-            "=\"00417\"",
-            "=\"00417\"",
-            "\"=\" is no digit; it is a spreadsheet formula",
-        ),
-        (
-            "\"=\"\"00417\"\"\"",
-            "=\"00417\"",
-            "it is a spreadsheet formula",
-        ),
-        ("'00417", "'00417", "an apostrophe stands before it"),
-        (
-            "4.17E+2",
-            "4.17E+2",
-            "scientific notation: format the column as text",
-        ),
-        ("4,17e5", "4,17e5", "the row has 2 fields"),
-        (
-            "\"1,349,477\"",
-            "1,349,477",
-            "\",\" is no digit; its digits stand in groups",
-        ),
-        ("1.349.477", "1.349.477", "its digits stand in groups"),
-        ("417.0", "417.0", "it looks like a fraction"),
-        (" 417", " 417", "there are blanks around it"),
-        ("417 ", "417 ", "there are blanks around it"),
-        ("\"417\t\"", "417\\t", "there are blanks around it"),
-        ("41 7", "41 7", "there are blanks in it"),
-        (
-            "00417",
-            "00417",
-            "leading zero: a file number has none; is it a key?",
-        ),
-        ("+417", "+417", "a sign stands before it"),
-        ("-1", "-1", "a sign stands before it"),
-        ("0x1A1", "0x1A1", "0x stands before it"),
-        (
-            "\u{ff14}\u{ff11}\u{ff17}",
-            "\u{ff14}\u{ff11}\u{ff17}",
-            "such as full-width ones",
-        ),
-        ("O417", "O417", "it has a letter that looks like a digit"),
-        ("4294967296", "4294967296", "it is above 4294967295"),
-        ("\"\"", "", "it is empty, and no file number"),
-        (
-            "4\u{0}1\u{0}",
-            "4\\x001\\x00",
-            "it has zero bytes: is the file UTF-16?",
-        ),
-        ("42x", "42x", "\"42x\" is no file number: \"x\" is no digit"),
-    ] {
+    for (field, text, words) in NO_NUMBERS {
         let said = root(&folder, format!("417\n{field}\n418\n").as_bytes(), &[]);
-        let answered = answers(&said.lines);
-        assert_eq!(answered[1], ("refused", text, "2"), "{}", said.lines);
-        assert_eq!((answered[2].2, answered.len(), said.status), ("3", 3, 2));
+        let answered = [
+            ("found", "417", "1"),
+            ("refused", text, "2"),
+            ("found", "418", "3"),
+        ];
+        assert_eq!((answers(&said.lines), said.status), (answered.to_vec(), 2));
         assert!(said.errors.contains(words), "{}", said.errors);
     }
 }
+
+/// What separates, and how it is given.
+const SEPARATORS: [(&str, &str); 8] = [
+    (",", ","),
+    (";", ";"),
+    ("|", "|"),
+    ("\t", "tab"),
+    ("\t", "\t"),
+    (" ", " "),
+    ("0", "0"),
+    ("\u{1}", "\u{1}"),
+];
 
 #[test]
 fn separators() {
     let folder = folder("worklist_separators");
     let [zero, one] = [key(0), key(1)];
-    for (separator, option) in [
-        (",", ","),
-        (";", ";"),
-        ("|", "|"),
-        ("\t", "tab"),
-        ("\t", "\t"),
-        (" ", " "),
-        ("0", "0"),
-        ("\0", "\u{1}"),
-    ] {
-        let separator = if separator == "\0" {
-            "\u{1}"
-        } else {
-            separator
-        };
+    let lines = found(0, 1) + &found(1, 2);
+    for (separator, given) in SEPARATORS {
         let list = format!("\"x\"{separator}\"{zero}\"\n\"y\"{separator}\"{one}\"\n");
-        let options = ["--column=2", "--separator", option];
-        let lines = found(0, 1) + &found(1, 2);
+        let options = ["--column=2", "--separator", given];
         find(&folder, list.as_bytes(), &options).expect(0, &lines, &["2 rows, no header: 2 found"]);
     }
     // A tab separates where the first row has one and no comma.
     let tabs = format!("id\tkey\n1,5\t{one}\n");
-    let lines = found(1, 2);
-    find(&folder, tabs.as_bytes(), &["--column-name=key"]).expect(0, &lines, &["2 rows, row 1"]);
+    let by_name = ["--column-name=key"];
+    find(&folder, tabs.as_bytes(), &by_name).expect(0, &found(1, 2), &["2 rows, row 1"]);
     let both = format!("id\t1,{zero}\nid,{one}\n");
-    let lines = found(0, 1) + &found(1, 2);
     find(&folder, both.as_bytes(), &["--column=2"]).expect(0, &lines, &["2 rows"]);
-    for (given, words) in [
-        (
-            "\"",
-            "--separator: \" cannot stand between fields, nor can a quote, CR or LF: refused 11",
-        ),
-        ("\n", "--separator: \\n cannot stand between fields"),
-        ("\r", "--separator: \\r cannot stand between fields"),
-        (
-            "",
-            "--separator wants one character of one byte, or tab, not ",
-        ),
-        (
-            ",,",
-            "--separator wants one character of one byte, or tab, not ,,",
-        ),
-        (
-            "\u{a7}",
-            "--separator wants one character of one byte, or tab, not \u{a7}",
-        ),
-    ] {
+}
+
+/// Separators that are none, and the words why.
+const NO_SEPARATORS: [(&str, &str); 6] = [
+    (
+        "\"",
+        "\" cannot stand between fields, nor can a quote, CR or LF: refused 11",
+    ),
+    ("\n", "\\n cannot stand between fields"),
+    ("\r", "\\r cannot stand between fields"),
+    (
+        "",
+        "--separator wants one character of one byte, or tab, not ",
+    ),
+    (
+        ",,",
+        "--separator wants one character of one byte, or tab, not ,,",
+    ),
+    (
+        "\u{a7}",
+        "--separator wants one character of one byte, or tab, not \u{a7}",
+    ),
+];
+
+#[test]
+fn separators_that_are_none() {
+    let folder = folder("worklist_no_separators");
+    for (given, words) in NO_SEPARATORS {
         find(&folder, b"x", &["--separator", given]).expect(64, "", &[words]);
     }
 }
@@ -530,25 +532,18 @@ fn a_hint_of_another_separator() {
         let said = root(&folder, list.as_bytes(), &["--column-name=x"]);
         said.expect(64, "", &["it has no column x", &hint]);
     }
-    let tabs = root(
-        &folder,
-        b"417\tx\n418\ty\n",
-        &["--column=1", "--separator=,"],
-    );
-    assert!(
-        tabs.errors
-            .contains("separated by a tab: --separator tab reads"),
-        "{}",
-        tabs.errors
-    );
-    let commas = root(&folder, b"417,x\n418,y\n\n", &["--separator=;"]);
-    assert!(
-        commas
-            .errors
-            .contains("separated by \",\": --separator ','"),
-        "{}",
-        commas.errors
-    );
+}
+
+#[test]
+fn hints_of_other_separators() {
+    let folder = folder("worklist_hints");
+    for (list, given, words) in [
+        ("417\tx\n418\ty\n", ",", "by a tab: --separator tab reads"),
+        ("417,x\n418,y\n\n", ";", "by \",\": --separator ',' reads"),
+    ] {
+        let said = root(&folder, list.as_bytes(), &["--separator", given]);
+        assert!(said.errors.contains(words), "{}", said.errors);
+    }
     // Not all rows have as many.
     for list in ["417;x\n418\n", "417;x\n418;y;z\n", "417\n418 \n"] {
         let said = root(&folder, list.as_bytes(), &[]);

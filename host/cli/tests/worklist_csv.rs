@@ -31,59 +31,72 @@ fn every_row_is_answered_once() {
     }
 }
 
-fn compare(folder: &Path, list: &Written, header: bool) {
+/// The answers of a list, and the summary.
+fn answered(folder: &Path, list: &Written, header: bool) -> (Vec<String>, String) {
     put(folder, "list", &list.text);
     let separator = char::from(list.separator).to_string();
     let column = (list.column + 1).to_string();
-    let options = [
+    let options = ["--column", &column, "--separator", &separator];
+    let find = [
+        "index",
+        "find",
+        "--index",
+        "index",
+        "--json",
         "--worklist",
         "list",
-        "--column",
-        &column,
-        "--separator",
-        &separator,
     ];
-    let find = ["index", "find", "--index", "index", "--json"];
     let header: &[&str] = if header { &["--header"] } else { &[] };
     let said = run(folder, find.iter().chain(&options).chain(header)).lines;
-    let mut lines: Vec<_> = said.lines().collect();
-    let last = lines.pop().expect("something is said");
-    if last.contains("there is no other row") {
-        assert_eq!(list.rows.len(), 1);
+    let mut lines: Vec<_> = said.lines().map(str::to_string).collect();
+    let summary = lines.pop().expect("something is said");
+    (lines, summary)
+}
+
+fn compare(folder: &Path, list: &Written, header: bool) {
+    let (lines, summary) = answered(folder, list, header);
+    let rows = list.rows.len();
+    if summary.contains("there is no other row") {
+        assert_eq!((rows, lines.len()), (1, 0));
         return;
     }
-    let first = usize::from(last.contains("\"header_row\":1,"));
-    assert!(first == 1 || header.is_empty());
-    assert_eq!(lines.len(), list.rows.len() - first, "{last}");
+    let first = usize::from(summary.contains("\"header_row\":1,"));
+    assert!(first == 1 || !header, "{summary}");
+    assert_eq!(lines.len(), rows - first, "{summary}");
     let mut counts = [0; 3];
     for (row, line) in (first..).zip(&lines) {
         let (word, text) = meant(list.content(row));
         counts[word as usize] += 1;
-        let word = ["found", "absent", "refused"][word as usize];
-        assert!(
-            line.starts_with(&format!("{{\"answer\":\"{word}\",")),
-            "{line}"
-        );
-        let number = row + 1;
-        let ends = [
-            format!(",\"row\":{number}}}"),
-            format!(",\"row\":{number},\"words\":"),
-        ];
-        assert!(
-            ends.iter().any(|end| line.contains(end)),
-            "row {number}: {line}"
-        );
-        let text = text.map(|text| format!(":{},", quoted(&text)));
-        assert!(text.is_none_or(|text| line.contains(&text)), "{line}");
+        compare_line(line, row + 1, word, text);
     }
     let [found, absent, refused] = counts;
-    let rows = list.rows.len();
     assert_eq!(rows, found + absent + refused + first);
     let begins = format!("{{\"answer\":\"summary\",\"rows\":{rows},");
-    assert!(last.starts_with(&begins), "{last}");
     let counts =
         format!(",\"found\":{found},\"absent\":{absent},\"unknown\":0,\"refused\":{refused},");
-    assert!(last.contains(&counts), "{last} {counts}");
+    assert!(
+        summary.starts_with(&begins) && summary.contains(&counts),
+        "{summary} {counts}"
+    );
+}
+
+/// A line has the word, the row and the text that were meant.
+fn compare_line(line: &str, row: usize, word: Word, text: Option<String>) {
+    let word = ["found", "absent", "refused"][word as usize];
+    assert!(
+        line.starts_with(&format!("{{\"answer\":\"{word}\",")),
+        "{line}"
+    );
+    let ends = [
+        format!(",\"row\":{row}}}"),
+        format!(",\"row\":{row},\"words\":"),
+    ];
+    assert!(
+        ends.iter().any(|end| line.contains(end)),
+        "row {row}: {line}"
+    );
+    let text = text.map(|text| format!(":{},", quoted(&text)));
+    assert!(text.is_none_or(|text| line.contains(&text)), "{line}");
 }
 
 /// Which answer a row must have.

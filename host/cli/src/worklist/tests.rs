@@ -4,7 +4,7 @@
 mod written;
 
 use super::shape::Asked;
-use super::{Cell, File};
+use super::{Cell, File, List};
 use written::Written;
 
 /// How many lists are read, and how many rows each has at most.
@@ -32,40 +32,35 @@ fn compare(written: &Written, header: bool) -> bool {
         separator: written.separator,
         asked: Asked::at(written.column, header),
     };
-    let list = match file.list() {
-        Ok(list) => list,
+    match file.list() {
+        Ok(list) => {
+            let shown = file.bytes.escape_ascii().to_string();
+            assert!(!header || list.header().is_some(), "{shown}");
+            compare_rows(written, &list, &shown);
+            true
+        }
         Err(failure) => {
             assert!(
                 failure.words.contains("there is no other row"),
                 "{failure:?}"
             );
             assert_eq!(written.rows.len(), 1);
-            return false;
+            false
         }
-    };
-    assert_eq!(
-        list.rows(),
-        written.rows.len(),
-        "{:?}",
-        file.bytes.escape_ascii()
-    );
-    assert!(!header || list.header().is_some());
-    let first = list.header().map_or(1, |_| 2);
+    }
+}
+
+fn compare_rows(written: &Written, list: &List<'_>, shown: &str) {
+    let rows = written.rows.len();
+    assert_eq!(list.rows(), rows, "{shown}");
     let mut cells = list.cells();
-    for row in first..=written.rows.len() {
+    for row in list.header().map_or(1, |_| 2)..=rows {
         let (number, cell) = cells.next().expect("no row is dropped");
         let text = match &cell {
             Cell::Text(text) => Some(&text[..]),
             Cell::Fault(..) => None,
         };
-        let said = (number, text);
-        assert_eq!(
-            said,
-            (row, written.content(row - 1)),
-            "{:?}",
-            file.bytes.escape_ascii()
-        );
+        assert_eq!((number, text), (row, written.content(row - 1)), "{shown}");
     }
-    assert!(cells.next().is_none());
-    true
+    assert!(cells.next().is_none(), "{shown}");
 }
