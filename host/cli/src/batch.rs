@@ -86,7 +86,7 @@ impl<'a> Batch<'a> {
     fn fault(&self, sought: &Sought<'_>) -> Option<Failure> {
         match (&sought.cell, sought.row, &self.list) {
             (Cell::Fault(why, _), Some(row), Some(list)) => {
-                Some(Failure::unfit(list.words(row, why, false)))
+                Some(Failure::unfit(list.words(row, why, None)))
             }
             _ => None,
         }
@@ -96,7 +96,7 @@ impl<'a> Batch<'a> {
     fn failure(&self, sought: &Sought<'_>, failure: Failure) -> Failure {
         match (sought.row, &self.list) {
             (Some(row), Some(list)) => Failure {
-                words: list.words(row, &failure.words, true),
+                words: list.words(row, &failure.words, sought.text()),
                 ..failure
             },
             _ => failure,

@@ -232,16 +232,13 @@ impl<'a> List<'a> {
         )
     }
 
-    /// What is wrong in a row, in words: where it stands, and what else there is to say of it.
-    pub fn words(&self, row: usize, why: &str, of_text: bool) -> String {
+    /// What is wrong in a row, in words: where it stands, and what else there is to say of it. The
+    /// text is what stands in the column, where something does.
+    pub fn words(&self, row: usize, why: &str, text: Option<&[u8]>) -> String {
         let Shape { header, name, .. } = &self.shape;
-        let column = if of_text {
-            format!("column {name}, ")
-        } else {
-            String::new()
-        };
+        let column = text.map_or(String::new(), |_| format!("column {name}, "));
         let mut words = format!("{}: {column}row {row}: {why}", self.file);
-        if of_text && row == 1 && header.is_none() {
+        if row == 1 && header.is_none() && text.is_some_and(begins_as_a_word) {
             words += "; if row 1 is a header, --header says so";
         }
         if let Some(hint) = &self.hint {
@@ -249,4 +246,10 @@ impl<'a> List<'a> {
         }
         words
     }
+}
+
+/// Whether a text begins with a letter, or with a byte of one that is not of ASCII.
+fn begins_as_a_word(text: &[u8]) -> bool {
+    let first = text.first();
+    first.is_some_and(|byte| byte.is_ascii_alphabetic() || !byte.is_ascii())
 }

@@ -81,9 +81,12 @@ fn a_column_of_quoted_rows() {
 
 /// Rows with a separator in a list of one column, and the fields that they have.
 const CUT: [(&str, &str); 3] = [
-    ("417,5", "2 fields by the separator \",\" (417, 5)"),
-    ("1,349,477", "3 fields by the separator \",\" (1, 349, 477)"),
-    ("417,", "2 fields by the separator \",\" (417, )"),
+    ("417,5", "2 fields by the separator \",\" (\"417\", \"5\")"),
+    (
+        "1,349,477",
+        "3 fields by the separator \",\" (\"1\", \"349\", \"477\")",
+    ),
+    ("417,", "2 fields by the separator \",\" (\"417\", \"\")"),
 ];
 
 /// A separator in a row of a list of one column cuts nothing off.
@@ -106,7 +109,7 @@ fn a_separator_in_a_list_of_one_column() {
         }
     }
     for first in ["417,418,419", "417,5", "FileDataID,name"] {
-        let words = format!("list.csv: it has the columns {}", first.replace(',', ", "));
+        let words = format!("it has the columns \"{}\":", first.replace(',', "\", \""));
         let said = root(&folder, first.as_bytes(), &[]);
         said.expect(
             64,
@@ -186,18 +189,26 @@ fn columns_by_position() {
 
 /// The first row of a list of two columns, an option, and what is wrong.
 const NO_COLUMNS: [(&str, &[&str], &str); 10] = [
-    ("a,b", &[], "list.csv: it has the columns a, b: --column N"),
+    (
+        "a,b",
+        &[],
+        "list.csv: it has the columns \"a\", \"b\": --column N",
+    ),
     (
         "a,b",
         &["--column-name=c"],
-        "list.csv: it has no column c; it has a, b",
+        "list.csv: it has no column c; it has \"a\", \"b\"",
     ),
     (
         "a,b",
         &["--column-name=1"],
-        "list.csv: it has no column 1; it has a, b",
+        "list.csv: it has no column 1; it has \"a\", \"b\"",
     ),
-    ("a,b", &["--column=3"], "it has no column 3; it has a, b"),
+    (
+        "a,b",
+        &["--column=3"],
+        "it has no column 3; it has \"a\", \"b\"",
+    ),
     ("a,b", &["--column=0"], "--column counts from 1"),
     (
         "a,b",
@@ -327,7 +338,7 @@ fn rows_of_another_shape() {
     let after = list.find("\"x\n").expect("it is there") + 1;
     let open = list.rfind('"').expect("it is there");
     let words = [
-        "list.csv: row 3: the row has 1 field by the separator \",\" (1), and row 1 has 2",
+        "list.csv: row 3: the row has 1 field by the separator \",\" (\"1\"), and row 1 has 2",
         "row 4: the row has 3 fields",
         &format!("row 5: the row is malformed: \"x\" follows a closing quote, at byte {after}"),
         "row 6: the row is empty",
@@ -343,7 +354,7 @@ fn rows_of_another_shape() {
         "refused\t\t1\nrefused\t\"0\"0,{zero}\t2\n{}refused\t1\t4\n",
         found(0, 3)
     );
-    let words = ["row 4: the row has 1 field by the separator \",\" (1), and row 3 has 2"];
+    let words = ["row 4: the row has 1 field by the separator \",\" (\"1\"), and row 3 has 2"];
     find(&folder, list.as_bytes(), &["--column=2"]).expect(2, &lines, &words);
     let open = format!("\"{one}\n{one}\n");
     let lines = format!("refused\t\"{one}\t1\n{}", found(1, 2));

@@ -210,6 +210,9 @@ fn search_one(
             (settings, found.map_err(refused)?)
         }
     };
+    for (key, _) in &found {
+        sought.first[*key].fetch_min(number, Ordering::Relaxed);
+    }
     Ok(Finds {
         key_length: settings.key_length,
         found,
@@ -291,7 +294,6 @@ impl One<'_> {
 
     /// The place of a key that this index has.
     fn place(&self, (_, number): &Numbered, entry: &IndexEntry<'_>) -> (usize, Place) {
-        self.sought.first[*number].fetch_min(self.number, Ordering::Relaxed);
         let place = Place {
             index: self.number,
             settings: self.settings,

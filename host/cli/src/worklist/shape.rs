@@ -169,7 +169,7 @@ pub fn fields_of(row: Row<'_>) -> String {
     let fields = row.fields().unwrap_or_default();
     let mut names: Vec<_> = (0..fields.min(NAMED))
         .filter_map(|column| row.field(column))
-        .map(|field| shown_bytes(&field.content()))
+        .map(|field| format!("\"{}\"", shown_bytes(&field.content())))
         .collect();
     if fields > NAMED {
         names.push(format!("and {} more", fields - NAMED));
