@@ -3,15 +3,18 @@
 mod forge;
 mod run;
 
+use std::fs::File;
 use std::io::{BufRead, BufReader, Read};
-use std::path::Path;
+use std::path::{Path, PathBuf};
 use std::process::{Command, Stdio};
+use std::thread;
+use std::time::Duration;
 
 use forge::{W4, index, key};
 use run::{dwarnizza, folder, put, sample};
 
 /// A folder with an index and a pipe that nobody writes to, which stands for one that takes long.
-fn folder_with_pipe(test: &str) -> std::path::PathBuf {
+fn folder_with_pipe(test: &str) -> PathBuf {
     let folder = folder(test);
     put(&folder, "index", index(W4, 3, 0));
     let made = Command::new("mkfifo").arg(folder.join("pipe")).status();
@@ -19,8 +22,21 @@ fn folder_with_pipe(test: &str) -> std::path::PathBuf {
     folder
 }
 
+/// How long a run may take to say what it knows.
+const PATIENCE: Duration = Duration::from_secs(20);
+
+/// Ends the pipe after a while, so that a run which says nothing before it ends too.
+fn end_late(folder: &Path) {
+    let pipe = folder.join("pipe");
+    thread::spawn(move || {
+        thread::sleep(PATIENCE);
+        File::options().write(true).open(pipe)
+    });
+}
+
 /// What a run says before it waits for the pipe, of which so many lines are awaited; it is killed then.
 fn said_before_the_end(folder: &Path, arguments: &[&str], lines: usize) -> Vec<String> {
+    end_late(folder);
     let mut command = dwarnizza(arguments);
     let command = command.current_dir(folder).stdout(Stdio::piped());
     let mut child = command.stderr(Stdio::null()).spawn().expect("it starts");
@@ -33,7 +49,8 @@ fn said_before_the_end(folder: &Path, arguments: &[&str], lines: usize) -> Vec<S
             line
         })
         .collect();
-    child.kill().expect("it runs until then");
+    // It may have ended, where it said less.
+    let _ = child.kill();
     child.wait().expect("it ends");
     let mut rest = String::new();
     said.read_to_string(&mut rest).expect("it says text");
