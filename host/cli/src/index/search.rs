@@ -118,9 +118,7 @@ impl Sought {
                 rising[bytes.len()].push((rank(bytes).to_be_bytes(), number));
             }
         }
-        for keys in &mut rising {
-            keys.sort_unstable();
-        }
+        rising.iter_mut().for_each(|keys| keys.sort_unstable());
         let first = keys.iter().map(|_| AtomicUsize::new(usize::MAX));
         Self {
             rising,
