@@ -8,8 +8,11 @@ use crate::export::{
 };
 use crate::random::Random;
 
-/// The separators of spreadsheets, bytes at the bounds, and what is none.
-const SEPARATORS: [u64; 12] = [44, 44, 44, 59, 9, 124, 0, 255, 49, 34, 256, 1 << 31 | 44];
+/// The separators of spreadsheets, bytes at the bounds, and a digit.
+const SEPARATORS: [u64; 8] = [44, 44, 59, 9, 124, 0, 255, 49];
+
+/// Numbers that are no separators.
+const NO_SEPARATORS: [u64; 5] = [10, 13, 34, 256, 0x8000_002c];
 
 /// Bytes beside the digits.
 const BESIDE: &[u8] = b"/: ,.+-E\0\xff";
@@ -17,6 +20,7 @@ const BESIDE: &[u8] = b"/: ,.+-E\0\xff";
 pub fn compare(random: &mut Random, comparison: &mut Comparison) -> Compared {
     let separator = match random.within(0..=9) {
         0 => random.number(9),
+        1 => random.pick(&NO_SEPARATORS),
         _ => random.pick(&SEPARATORS),
     };
     let text = text(random, separator as u8);
@@ -132,7 +136,7 @@ fn field(random: &mut Random, signs: &[u8], text: &mut Vec<u8>) {
 pub fn compare_number(random: &mut Random, comparison: &mut Comparison) -> Compared {
     let number = match random.within(0..=3) {
         0 => random.number(64),
-        1 => random.number(34),
+        1 => u64::from(u32::MAX - 2) + random.word() % 5,
         _ => random.number(32),
     };
     let mut text = number.to_string().into_bytes();
