@@ -1,24 +1,63 @@
 -- What `envelope::open` and `envelope::content_length` judge, read from their check: where it is silent, all this holds.
 use mathlib.Core.Path.{_≡_, refl, sym, ap, ap₂, _∙_}
 use mathlib.Core.Bool.{Bool, true, false, not, _&&_}
-use mathlib.Core.List.{List}
+use mathlib.Core.List.{List, [], _∷_, _++_}
 use Prim.Native.Nat.{ℕ, zero, suc, _+_, _-_, _≤_, _<_}
-use native.Mathlib.Nat.{zero-add}
+use native.Mathlib.Nat.{zero-add, add-zero}
 use native.Mathlib.Omega.{arith}
 use lib.Dec.{eqb}
-use lib.ListN.{length, length-append}
+use lib.ListN.{length, take, drop, getD, length-append, take-append-drop, drop-of-length-le}
+use lib.Seq.{drop-cons, drop-drop}
 use borrow.Author.Tests.{eqb-true, not-false}
-use Rattle.parts.specs.Part.{sameBytes, partsFrom}
+use Rattle.parts.specs.Part.{byteAt, partAt, sameBytes, partsFrom}
 use Rattle.parts.proofs.Laws.{sameBytes-eq}
 use Rattle.md5.specs.Message.{md5}
 use Rattle.refusal.specs.Check.{silent, refusedIf, first}
 use Rattle.refusal.specs.Number.{envelope-key, chunk-hash, chunk-mode, decoded-size}
 use Rattle.refusal.proofs.Laws.{silent-test, first-left, first-right, from-each}
 use Rattle.envelope_header.specs.declared.Header.{Header}
-use Rattle.envelope_header.specs.Header.{headerOf, tabled, chunkCount, encodedSize, decodedSize, chunkHash, opening}
+use Rattle.envelope_header.specs.Header.{headerOf, tabled, chunkCount, headerLength, encodedSize, decodedSize, chunkHash, chunkAt, sizesCheck, opening}
 use Rattle.envelope.specs.Envelope.{chunkOf, plainMode, modeOf, contentOf, contentBy, content, envelopeKey, limitCheck, envelopeKeyCheck, hashCheck, modeCheck, decodedCheck, chunkCheck, chunksCheck, contentCheck}
-use Rattle.envelope.specs.Content.{decodedFrom, Opens, OpensTable}
-use Rattle.envelope.proofs.Laws.{judged-sizes, content-length}
+use Rattle.envelope.specs.Content.{plainChunk, plainChunks, joined, contentAt, decodedFrom, Opens, OpensTable}
+use Rattle.envelope.proofs.Laws.{judged-sizes, whole, not-empty, inside, content-length}
+
+-- ---- contents as a list
+
+unfoldable pub contentsFrom : (ℕ → List ℕ) → (i n : ℕ) → List (List ℕ)
+contentsFrom f i zero = []
+contentsFrom f i (suc n) = f i ∷ contentsFrom f (suc i) n
+
+-- The contents of an envelope's chunks.
+unfoldable pub contentsOf : List ℕ → List (List ℕ)
+contentsOf s = contentsFrom (contentOf s (headerOf s)) 0 (chunkCount (headerOf s))
+
+module _ (f : ℕ → List ℕ) where
+  contents-count : (i n : ℕ) → length (contentsFrom f i n) ≡ n
+  unfolding contentsFrom
+  contents-count i zero = refl
+  contents-count i (suc n) = ap suc (contents-count (suc i) n)
+
+  contents-at : (i n k : ℕ) → k < n → contentAt (contentsFrom f i n) k ≡ f (i + k)
+  unfolding contentsFrom
+  contents-at i zero k l = absurd (omega arith)
+  contents-at i (suc n) zero l = ap f (sym (add-zero i))
+  contents-at i (suc n) (suc k) l =
+      let next : suc i + k ≡ i + suc k = omega arith in
+      contents-at (suc i) n k (omega arith) ∙ ap f next
+
+  contents-joined : (i n : ℕ) → joined (contentsFrom f i n) ≡ partsFrom f i n
+  unfolding contentsFrom joined partsFrom
+  contents-joined i zero = refl
+  contents-joined i (suc n) = ap (λ r. f i ++ r) (contents-joined (suc i) n)
+
+-- a part that begins with the mode byte
+plain-part : (s : List ℕ) (at size : ℕ) → at + size ≤ length s → 1 ≤ size → byteAt s at ≡ plainMode
+    → partAt s at size ≡ plainChunk (partAt s (at + 1) (size - 1))
+plain-part s at zero inside some mode = absurd (omega arith)
+plain-part s at (suc k) inside some mode =
+    let less : k ≡ suc k - 1 = omega arith in
+    let next : suc at ≡ at + 1 = omega arith in
+    ap (take (suc k)) (drop-cons s at 0 (omega arith)) ∙ ap₂ _∷_ mode (ap₂ (λ m r. take m (drop r s)) less next)
 
 module _ (s key : List ℕ) (e : contentCheck s key ≡ silent) where
   after-opening : first (envelopeKeyCheck s key) (chunksCheck s (headerOf s)) ≡ silent
@@ -45,9 +84,42 @@ module _ (s key : List ℕ) (e : contentCheck s key ≡ silent) where
   unfolding modeCheck
   mode-right i l = eqb-true _ _ (not-false _ (silent-test (not (eqb (modeOf s (headerOf s) i) plainMode)) chunk-mode i (first-left (modeCheck s (headerOf s) i) (decodedCheck s (headerOf s) i) (rest-silent i l))))
 
-  pub opens : Opens s key
-  unfolding contentBy
-  opens = record { key-right = key-same; mode = mode-right; joined = refl }
+  sizes : sizesCheck s (headerOf s) ≡ silent
+  sizes = judged-sizes s key (headerOf s) e refl
+
+  chunk-plain : (i : ℕ) → i < chunkCount (headerOf s) → chunkOf s (headerOf s) i ≡ plainChunk (contentOf s (headerOf s) i)
+  chunk-plain i l = plain-part s _ _ (inside s (headerOf s) sizes i l) (not-empty s (headerOf s) sizes i l) (mode-right i l)
+
+  -- from chunk i on the file is the chunks
+  chunks-from : (i n : ℕ) → i + n ≡ chunkCount (headerOf s)
+      → drop (chunkAt s (headerOf s) i) s ≡ plainChunks (contentsFrom (contentOf s (headerOf s)) i n)
+  unfolding contentsFrom plainChunks chunkAt
+  chunks-from i zero l =
+      let end : i ≡ chunkCount (headerOf s) = omega arith in
+      drop-of-length-le s {i = chunkAt s (headerOf s) i} (omega (arith, whole s (headerOf s) sizes, ap (chunkAt s (headerOf s)) end))
+  chunks-from i (suc n) l =
+      let size = encodedSize s (headerOf s) i in
+      sym (take-append-drop size (drop (chunkAt s (headerOf s) i) s))
+      ∙ ap₂ _++_ (chunk-plain i (omega arith)) (drop-drop size (chunkAt s (headerOf s) i) s ∙ chunks-from (suc i) n (omega arith))
+
+  content-is : (i : ℕ) → i < chunkCount (headerOf s) → contentAt (contentsOf s) i ≡ contentOf s (headerOf s) i
+  unfolding contentsOf
+  content-is i l = contents-at (contentOf s (headerOf s)) 0 (chunkCount (headerOf s)) i l ∙ ap (contentOf s (headerOf s)) (zero-add i)
+
+  encoded-right : (i : ℕ) → i < chunkCount (headerOf s) → length (plainChunk (contentAt (contentsOf s) i)) ≡ encodedSize s (headerOf s) i
+  encoded-right i l =
+      omega (arith, ap length (content-is i l), content-length s (headerOf s) sizes i l, not-empty s (headerOf s) sizes i l)
+
+  pub opens : Opens s key (contentsOf s)
+  unfolding contentBy contentsOf chunkAt
+  opens = record {
+    key-right = key-same;
+    count = contents-count (contentOf s (headerOf s)) 0 (chunkCount (headerOf s));
+    encoded = encoded-right;
+    file = sym (take-append-drop (headerLength (headerOf s)) s)
+        ∙ ap (λ r. take (headerLength (headerOf s)) s ++ r) (chunks-from 0 (chunkCount (headerOf s)) (zero-add _));
+    content-joined = sym (contents-joined (contentOf s (headerOf s)) 0 (chunkCount (headerOf s)));
+  }
 
   module _ (table : tabled (headerOf s) ≡ true) where
     of-table : (test : Bool) → (tabled (headerOf s) && not test) ≡ false → test ≡ true
@@ -68,8 +140,12 @@ module _ (s key : List ℕ) (e : contentCheck s key ≡ silent) where
     sum-from i zero l = refl
     sum-from i (suc n) l =
         length-append (contentOf s (headerOf s) i) (partsFrom (contentOf s (headerOf s)) (suc i) n)
-        ∙ ap₂ _+_ (content-length s (headerOf s) (judged-sizes s key (headerOf s) e refl) i (omega arith) ∙ sym (size-right i (omega arith))) (sum-from (suc i) n (omega arith))
+        ∙ ap₂ _+_ (content-length s (headerOf s) sizes i (omega arith) ∙ sym (size-right i (omega arith))) (sum-from (suc i) n (omega arith))
 
-    pub opens-table : OpensTable s
-    unfolding contentBy
-    opens-table = record { hash = hash-right; size = size-right; sum = sum-from 0 (chunkCount (headerOf s)) (omega arith) }
+    pub opens-table : OpensTable s (contentsOf s)
+    unfolding contentsOf
+    opens-table = record {
+      hash = λ i l. ap (λ c. md5 (plainChunk c)) (content-is i l) ∙ ap md5 (sym (chunk-plain i l)) ∙ hash-right i l;
+      decoded = λ i l. ap length (content-is i l) ∙ content-length s (headerOf s) sizes i l ∙ sym (size-right i l);
+      sum = ap length (contents-joined (contentOf s (headerOf s)) 0 (chunkCount (headerOf s))) ∙ sum-from 0 (chunkCount (headerOf s)) (omega arith);
+    }
