@@ -25,7 +25,7 @@ use Rattle.root_block.specs.Block as block
 use Rattle.root_block.specs.Block.{blockOf, deltasOf, blockCheck, counts}
 use Rattle.root_block.proofs.Laws.{block-ids}
 use Rattle.root_block.proofs.Signed.{reckoned, one-fits, reckoned-is, reckoned-fits}
-use Rattle.root_block.proofs.Gathered.{idBefore, id-next, id-in-range, before-near}
+use Rattle.root_block.proofs.Reckoned.{idBefore, id-next, id-in-range, before-near}
 use Rattle.root.specs.Root.{blocksBy, blocksCheck, rootCheck}
 use Rattle.root.specs.Lookup.{Record, recordAt, recordsFrom, recordsIn, recordsBy, isId, wanted, foundIn, lookupOf, keyOr, outcome}
 use Rattle.root.specs.declared.Answer.{Answer}

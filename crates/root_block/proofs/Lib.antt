@@ -1,3 +1,3 @@
 pub mod Signed
-pub mod Gathered
+pub mod Reckoned
 pub mod Laws

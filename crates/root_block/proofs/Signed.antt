@@ -1,16 +1,15 @@
 -- Laws of whole numbers as the code holds them: a number and its bits, and how far a sum can lie from 0.
 use mathlib.Core.Path.{_≡_, refl, sym, ap, ap₂, _∙_}
-use mathlib.Core.Bool.{Bool, true, false, not, cond, _||_}
+use mathlib.Core.Bool.{Bool, true, false, not, cond}
 use Prim.Native.Nat.{ℕ, zero, suc, _+_, _-_, _^_, _≤_, _<_}
 use native.Mathlib.Nat.{le-trans, lt-of-le-of-lt}
 use native.Mathlib.Omega.{arith}
-use lib.Bits.{bitOr, or-add-and, and-le-l, and-le-r, or-lt}
 use lib.Dec.{ltb, leb}
 use lib.IntN.{ℤ, pos, negsuc, sucℤ, subℕ, _+ℤ_, _-ℤ_, +ℤ-one}
 use lib.Signed.{mag, ltZ}
 use mir.Syntax.{w32, w64}
-use mir.Val.{Fits, SFits, toZ, ofZ}
-use mir.Facts.{toZ-ofZ, ofZ-toZ, sfits-toZ, toZ-pos}
+use mir.Val.{SFits, toZ, ofZ}
+use mir.Facts.{toZ-ofZ, toZ-pos}
 use borrow.Author.Tests.{lt-ltb, le-ltb, le-leb, lt-leb, ltb-true, ltb-false}
 use Rattle.root_block.specs.Ids.{signBit, modulus, signed, mostId, inRange}
 
@@ -65,30 +64,6 @@ module _ (x : ℕ) (h : signBit ≤ x) (l : x < 2 ^ 32) where
   pub signed-high : toZ w32 (ofZ w32 (toZ w64 (ofZ w64 (toZ w64 x -ℤ pos modulus)))) ≡ signed x
   unfolding signed
   signed-high = toZ-ofZ high-narrow ∙ toZ-ofZ high-wide ∙ wide x l ∙ sym (ap (λ t. cond t (pos x) (pos x -ℤ pos modulus)) (le-ltb x signBit h))
-
--- ---- the bits of a number
-
-upto : (a b : ℕ) (t : Bool) → ltb b a ≡ t → leb a b ≡ not t
-upto a b true e = lt-leb a b (ltb-true b a e)
-upto a b false e = le-leb a b (ltb-false b a e)
-
--- a number of 64 bits is in the range of ids exactly where none of its upper bits is set
-pub range-bits : (z : ℤ) → SFits w64 z → inRange z ≡ not (ltb mostId (ofZ w64 z))
-unfolding inRange
-range-bits (pos n) f = upto n mostId (ltb mostId n) refl
-range-bits (negsuc n) f = rw (lt-ltb mostId (18446744073709551616 - suc n) (omega (arith, f .sfits)))
-
-pub range-of : (n : ℕ) → Fits w64 n → inRange (toZ w64 n) ≡ not (ltb mostId n)
-range-of n f = range-bits (toZ w64 n) (sfits-toZ f) ∙ ap (λ x. not (ltb mostId x)) (ofZ-toZ f)
-
--- the upper bits of two numbers, gathered
-gather : (a b : ℕ) (s t : Bool) → ltb mostId a ≡ s → ltb mostId b ≡ t → ltb mostId (bitOr a b) ≡ (s || t)
-gather a b true t p q = lt-ltb mostId (bitOr a b) (omega (arith, ltb-true mostId a p, or-add-and a b, and-le-r a b))
-gather a b false true p q = lt-ltb mostId (bitOr a b) (omega (arith, ltb-true mostId b q, or-add-and a b, and-le-l a b))
-gather a b false false p q = le-ltb mostId (bitOr a b) (omega (arith, or-lt 32 a b (omega (arith, ltb-false mostId a p)) (omega (arith, ltb-false mostId b q))))
-
-pub gathered : (a b : ℕ) → ltb mostId (bitOr a b) ≡ (ltb mostId a || ltb mostId b)
-gathered a b = gather a b (ltb mostId a) (ltb mostId b) refl refl
 
 -- ---- an id, plus 1, plus a delta, as the code reckons it in an i64
 

@@ -36,28 +36,25 @@ pub fn delta(a: u8, b: u8, c: u8, d: u8) -> i32
     (number as i64 - MODULUS) as i32
 }
 
-// Refusal 41. An i64 holds every id, and an id has a bit above the lower 32 exactly where it is out of range, so the bits of all
-// ids are gathered and judged once.
+// Refusal 41. An i64 holds an id, plus 1, plus any delta; each id is judged before the next is reckoned.
 pub(crate) fn check_ids(deltas: &[u8], count: u32, place: usize) -> Verdict
     requires { ⌜ 4 * count ≤ length (now deltas) ⌝ }
     ensures { λ r. ⌜ checkOf r ≡ spec.idsCheck (now (deltas .entry)) count place ⌝ }
 {
     let n = count as usize;
     let mut id: i64 = -1;
-    let mut bits: i64 = 0;
     let mut i = 0;
     while i < n {
         let at = DELTA_SIZE * i;
         let step = delta(deltas[at], deltas[at + 1], deltas[at + 2], deltas[at + 3]);
         id = id + 1 + step as i64;
-        bits |= id;
+        if id < 0 {
+            return refuse(ID_RANGE, place);
+        }
+        if id > MOST_ID {
+            return refuse(ID_RANGE, place);
+        }
         i += 1;
-    }
-    if bits < 0 {
-        return refuse(ID_RANGE, place);
-    }
-    if bits > MOST_ID {
-        return refuse(ID_RANGE, place);
     }
     Verdict::Passed
 }

@@ -14,7 +14,7 @@ use Rattle.root_block.specs.Block as block
 use Rattle.root_block.specs.Block.{blockOf, blockSize, deltasOf, blockCheck, counts}
 use Rattle.root_block.proofs.Laws.{block-fits, deltas-length, key-inside}
 use Rattle.root_block.proofs.Signed.{cast-fits}
-use Rattle.root_block.proofs.Gathered.{delta-is}
+use Rattle.root_block.proofs.Reckoned.{delta-is}
 use Rattle.root.specs.declared.Answer.the-variants.{Key, Absent}
 use Rattle.root.specs.Root.{sizeAt}
 use Rattle.root.specs.Lookup.{Record, recordsFrom, wanted, foundIn, outcome}
