@@ -9,7 +9,8 @@ use Rattle.key.specs.declared.Order.the-variants.{Below, Equal, Above}
 use Rattle.key.specs.Order.{isBelow, isEqual}
 use Rattle.key.proofs.Laws.{below-not-equal, below-not-above, equal-not-above, isBelow-true, isEqual-true}
 use Rattle.halving.specs.Halving.{binaryDigits}
-use Rattle.halving.proofs.Laws.{true-or-false, by-order, Rising, First, halve-first, halve-count, digits-mono}
+use Rattle.halving.specs.Claims.{Rising, First}
+use Rattle.halving.proofs.Laws.{true-or-false, by-order, halve-first, halve-count, digits-mono}
 use Rattle.lookup.specs.Lookup.{Stored, Ended, slotHalved, endedAt, endedOn, pageHalved, endedFrom, ended}
 
 -- Keys that rise: where a later key is not above the sought one, every earlier one is below it, in one page and from page to

@@ -14,7 +14,7 @@ use Rattle.index_open.proofs.Opened.{opened, on-page-some}
 use Rattle.index.specs.Check.{fullCheck}
 use Rattle.lookup.specs.Lookup.{storedIn, ended, lookupOf, mostOf, boundOf}
 use Rattle.lookup.proofs.Laws.{opened-lookup}
-use Rattle.agreement.specs.Demand3.{Agrees, Calls, Demand3}
+use Rattle.agreement.specs.Demand3.{Agrees, DemandThree}
 use Rattle.agreement.proofs.Agreement.{settled, ended-count}
 use Rattle.agreement.proofs.Rising.{sorted}
 use Rattle.agreement.proofs.Reading.{reads}
@@ -31,7 +31,7 @@ agrees s sought passed size =
       bound = ended-count k (full l) (on-page-full l);
     }
 
-pub demand3 : (s sought : List ℕ) (c : Calls s sought) → Demand3 s sought c
+pub demand3 : DemandThree
 unfolding fullCheck boundOf
 demand3 s sought c =
     let known = passed-index (fullCheck s) (c .layout) (layoutOf s) (c .checked) (c .check-ensures) (c .passed) in

@@ -48,3 +48,7 @@ pub record Calls (s sought : List ℕ) : Type 0 where
 pub record Demand3 (s sought : List ℕ) (c : Calls s sought) : Type 0 where
   pub agrees : Agrees s sought (outcome (c .looked))
   pub bounded : boundOutcome (c .most) ≡ answered (mostOf (layoutOf s) ∷ [])
+
+-- The demand, of every index, every key and all calls on them. Proof: proofs/Demand3.antt.
+abbrev pub DemandThree : Type 0
+DemandThree = (s sought : List ℕ) (c : Calls s sought) → Demand3 s sought c

@@ -4,5 +4,6 @@ mod Root
 mod KeyText
 mod Envelope
 mod Encoding
+pub mod NoEntries
 pub mod Examples
 pub mod FiveDigits

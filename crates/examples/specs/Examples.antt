@@ -4,11 +4,12 @@ use mathlib.Core.Path.{_≡_}
 use mathlib.Core.List.{List, [], _∷_, _++_, map, List·Memᴰ}
 use Prim.Native.Nat.{ℕ}
 use lib.IntN.{ℤ, pos, negℤ}
-use lib.ListN.{replicate}
+use lib.ListN.{length, replicate}
 use Rattle.refusal.specs.Check.{silent, refused}
 use Rattle.refusal.specs.Outcome.{Outcome, answered, absent, refusal}
 use Rattle.refusal.specs.Output.{filled}
-use Rattle.index_layout.specs.Layout.{full, layoutWith}
+use Rattle.index_layout.specs.Layout.{full, layoutWith, layoutOf}
+use Rattle.index_open.specs.Open.{opening}
 use Rattle.writer.specs.Write.{writeOutcome}
 use Rattle.lookup.specs.Lookup as index
 use Rattle.root_layout.specs.Layout.{later}
@@ -52,7 +53,7 @@ m2 = (fullAt 9 4 is 240) ∷ []
 abbrev pub m3 : List Row
 m3 = (fullAt 16 6 is 157) ∷ []
 
--- X4 (m4): an index of the one key 05, and one of none. A lookup tells page, slot, size, location and comparisons.
+-- X4 (m4): an index of the one key 05, and one of none (`NoEntries` below is of every key). A lookup tells page, slot, size, location and comparisons.
 abbrev pub m4 : List Row
 m4 =
     (index.lookupOf one (5 ∷ []) is answered (0 ∷ 0 ∷ 7 ∷ 9 ∷ 3 ∷ []))
@@ -149,5 +150,12 @@ table = m1 ++ m2 ++ m3 ++ m4 ++ m5 ++ m6 ++ m7 ++ m8 ++ m9 ++ m10 ++ m11 ++ m12
 pub record EachHolds (rows : List Row) : Type 1 where
   pub holds : (row : Row) → List·Memᴰ row rows → row .given ≡ row .said
 
-abbrev pub MarkedExamples : Type 1
-MarkedExamples = EachHolds table
+-- X4 for any index of no entries: every key of K bytes is absent, and no key is compared.
+abbrev pub NoEntries : Type 0
+NoEntries =
+    (s sought : List ℕ) → opening s ≡ silent → layoutOf s .entries ≡ 0 → length sought ≡ layoutOf s .«key_length»
+    → index.lookupOf s sought ≡ absent (0 ∷ 0 ∷ 0 ∷ 0 ∷ 0 ∷ [])
+
+pub record MarkedExamples : Type 1 where
+  pub rows : EachHolds table
+  pub no-entries : NoEntries

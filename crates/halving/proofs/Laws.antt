@@ -14,6 +14,7 @@ use borrow.Author.Tests.{ne-eqb, ltb-true, ltb-false}
 use Rattle.parts.proofs.Laws.{by-test}
 use Rattle.halving.specs.declared.Halved.{Halved}
 use Rattle.halving.specs.Halving.{halvedOnce, halving, halvedFrom, halve, leastOr, digitsFrom, binaryDigits}
+use Rattle.halving.specs.Claims.{Least, First, Rising, HalvingFindsFirst, DigitsAreLeast}
 
 pub true-or-false : {b : Bool} → b ≡ true → b ≡ false → ⊥
 true-or-false t f = let z : _≡_ {A = ℕ} 0 1 = cc in omega arith
@@ -26,11 +27,6 @@ by-order {P} m n less other = go (decLt m n)
     go (no l) = other (omega arith)
 
 -- ---- binary digits
-
--- The least d with n below 2 ^ d.
-pub record Least (n d : ℕ) : Type 0 where
-  pub below : n < 2 ^ d
-  pub least : (e : ℕ) → n < 2 ^ e → d ≤ e
 
 below-power : (k : ℕ) → k < 2 ^ k
 below-power zero = omega arith
@@ -48,9 +44,9 @@ module _ (n : ℕ) where
       (from-least turns (d + 1) (rw shift at h)
       (λ e m. by-order d e (λ k. omega arith) (λ k. absurd (omega (arith, pow-mono k, ltb-false n (2 ^ d) t))))))
 
-  pub digits-least : Least n (binaryDigits n)
-  unfolding binaryDigits
-  digits-least = from-least n 0 (rw zero-add (below-power n)) (λ e m. omega arith)
+pub digits-least : DigitsAreLeast
+unfolding binaryDigits
+digits-least n = from-least n n 0 (rw zero-add (below-power n)) (λ e m. omega arith)
 
 pub digits-none : binaryDigits 0 ≡ 0
 unfolding binaryDigits digitsFrom
@@ -157,18 +153,8 @@ module _ (below : ℕ → Bool) where
   pub halve-most : (w : ℕ) → w < 2 ^ 32 → halve below w .count ≤ 32
   halve-most w h = omega (arith, halve-count w, digits-least w .least 32 h)
 
--- The place of the first of w keys that is not below; w where there is none.
-pub record First (below : ℕ → Bool) (w place : ℕ) : Type 0 where
-  pub inside : place ≤ w
-  pub before : (i : ℕ) → i < place → below i ≡ true
-  pub stops : place < w → below place ≡ false
-
--- Where a key is below, so is every one before it.
-pub record Rising (below : ℕ → Bool) (w : ℕ) : Type 0 where
-  pub earlier : (i j : ℕ) → i < j → j < w → below j ≡ true → below i ≡ true
-
 -- Over rising keys the halving rule finds the first that is not below.
-pub halve-first : (below : ℕ → Bool) (w : ℕ) → Rising below w → First below w (halve below w .place)
+pub halve-first : HalvingFindsFirst
 unfolding halve
 halve-first below w rising =
     by-halving below

@@ -4,7 +4,8 @@ use mathlib.Core.Bool.{Bool}
 use Prim.Native.Nat.{ℕ, zero, suc, _+_, _-_, _/_, _<_, _≤_}
 use native.Mathlib.Omega.{arith}
 use Rattle.halving.specs.declared.Halved.{Halved}
-use Rattle.halving.specs.Halving.{halving, halvedFrom, HalvingRule}
+use Rattle.halving.specs.Halving.{halving, halvedFrom}
+use Rattle.halving.specs.Claims.{HalvingFollowsRule}
 use Rattle.halving.proofs.Laws.{any-turns, stop-at-none, go-after, go-before}
 
 -- one turn of a range that has keys, and then as many as the rest has
@@ -14,7 +15,7 @@ turn : (below : ℕ → Bool) (start w count next rest : ℕ) → 0 < w → rest
 turn below start zero count next rest some less step = absurd (omega arith)
 turn below start (suc v) count next rest some less step = step v ∙ any-turns below v next rest (count + 1) (omega arith)
 
-pub halving-rule : (below : ℕ → Bool) → HalvingRule below (halvedFrom below)
+pub halving-rule : HalvingFollowsRule
 halving-rule below = record {
   none-left = λ start count. stop-at-none below 0 start count;
   below-sought = λ start w count some t. turn below start w count _ _ some (omega arith) (λ turns. go-after below turns start w count some t);

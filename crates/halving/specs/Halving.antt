@@ -1,4 +1,4 @@
--- The halving rule and the binary digits of a number: rules L1 and L9. Rule L2 is a law of the first (proofs/Laws.antt).
+-- The halving rule and the binary digits of a number: rules L1 and L9. What is claimed of them is in Claims.antt.
 use mathlib.Core.Path.{_≡_}
 use mathlib.Core.Bool.{Bool, true, false}
 use mathlib.Core.List.{List}
@@ -31,7 +31,7 @@ halvedFrom below start w count = halving w below start w count
 unfoldable pub halve : (ℕ → Bool) → ℕ → Halved
 halve below w = halvedFrom below 0 w 0
 
--- Rule L1 as three equations, without the turns: `go` follows it over every range. `halvedFrom` does (proofs/Rule.antt).
+-- Rule L1 as three equations, without the turns: `go` follows it over every range. `halvedFrom` does (Claims.antt).
 pub record HalvingRule (below : ℕ → Bool) (go : (start w count : ℕ) → Halved) : Type 0 where
   -- none left, stop;
   pub none-left : (start count : ℕ) → go start 0 count ≡ record { place = start; count = count }

@@ -1,17 +1,22 @@
 -- Laws of a page of an index.
-use mathlib.Core.Path.{_≡_, sym, ap, _∙_}
+use mathlib.Core.Path.{_≡_, refl, sym, ap, ap₂, _∙_}
 use mathlib.Core.Bool.{cond}
 use mathlib.Core.List.{List, []}
-use Prim.Native.Nat.{ℕ, _≤_, _<_}
+use Prim.Native.Nat.{ℕ, _+_, _*_, _/_, _%_, _≤_, _<_, min}
+use native.Mathlib.Nat.{add-zero, mul-add-div-right, mul-add-mod-self-right, div-eq-of-lt, mod-eq-of-lt}
+use native.Mathlib.Decide.{decLt}
 use native.Mathlib.Omega.{arith}
 use borrow.Author.Tests.{lt-ltb, le-ltb}
-use Rattle.refusal.specs.Check.{silent}
-use Rattle.refusal.specs.Outcome.{answered, absent}
-use Rattle.refusal.proofs.Laws.{after-quiet}
+use Rattle.refusal.specs.Check.{Check, silent, refused}
+use Rattle.refusal.specs.Outcome.{answered, absent, after}
+use Rattle.refusal.proofs.Laws.{after-quiet, after-said}
 use Rattle.index_layout.specs.declared.Layout.{Layout}
-use Rattle.index_layout.specs.Layout.{layoutOf}
+use Rattle.index_layout.specs.Layout.{full, onPage, layoutFrom, layoutOf}
 use Rattle.index_open.specs.Open.{opening}
-use Rattle.index_page.specs.Page.{valuesOf, pageIn, pageOutcome, EntriesOfPage}
+use Rattle.index_open.proofs.Opened.{opened, full-positive, on-page-some}
+use Rattle.index_entry.specs.Entry.{valuesAt}
+use Rattle.index_entry.proofs.Laws as entry
+use Rattle.index_page.specs.Page.{firstEntry, valuesOf, pageIn, pageOutcome, greatestPage, pageOfNumber, PageOfNumber, EntriesOfPage}
 
 -- the page against the count of pages
 module _ (s : List ℕ) (l : Layout) (p : ℕ) (quiet : opening s ≡ silent) (e : l ≡ layoutOf s) where
@@ -26,5 +31,46 @@ module _ (s : List ℕ) (l : Layout) (p : ℕ) (quiet : opening s ≡ silent) (e
       ap answered (rw e at v)
       ∙ sym (after-quiet _ quiet ∙ ap (λ b. cond b (answered (valuesOf (layoutOf s) p)) (absent [])) (lt-ltb p (layoutOf s .pages) (rw e at h)))
 
-pub entries-of-page : (l : Layout) → EntriesOfPage l
-entries-of-page l p i = omega arith
+-- entry first + i is the one in slot i
+pub entries-of-page : EntriesOfPage
+unfolding onPage
+entries-of-page s p i quiet less =
+    let l = layoutOf s in
+    let e = full l in
+    let some : 0 < e = omega arith in
+    let slot : i < e = omega arith in
+    let number : firstEntry l p + i ≡ p * e + i = omega arith in
+    let page-is : (p * e + i) / e ≡ p = mul-add-div-right some p i ∙ ap (λ q. p + q) (div-eq-of-lt slot) ∙ add-zero p in
+    let slot-is : (p * e + i) % e ≡ i = mul-add-mod-self-right p e i ∙ mod-eq-of-lt slot in
+    sym (entry.told s l (firstEntry l p + i) quiet refl (valuesAt s l p i) (omega arith)
+    (ap₂ (valuesAt s l) (sym (ap (λ k. k / e) number ∙ page-is)) (sym (ap (λ k. k % e) number ∙ slot-is))))
+
+-- no index has the greatest page
+pages-few : (s : List ℕ) → opening s ≡ silent → layoutOf s .pages ≤ greatestPage
+unfolding onPage layoutFrom
+pages-few s quiet = go (decLt greatestPage (layoutOf s .pages))
+  where
+    go : Dec (greatestPage < layoutOf s .pages) → layoutOf s .pages ≤ greatestPage
+    go (yes more) =
+        let o = opened s quiet in
+        absurd (omega (arith, on-page-some s o greatestPage more, full-positive s o, o .count))
+    go (no most) = omega arith
+
+-- a number above it is absent, as that page is
+page-absent : (l : Layout) (p : ℕ) → l .pages ≤ p → pageIn l p ≡ absent []
+unfolding pageIn
+page-absent l p h = ap (λ b. cond b (answered (valuesOf l p)) (absent [])) (le-ltb p (l .pages) h)
+
+page-in : (l : Layout) (m n : ℕ) → l .pages ≤ greatestPage → m ≡ min n greatestPage → pageIn l m ≡ pageIn l n
+page-in l m n few e = go (decLt greatestPage n)
+  where
+    go : Dec (greatestPage < n) → pageIn l m ≡ pageIn l n
+    go (yes over) = page-absent l m (omega arith) ∙ sym (page-absent l n (omega arith))
+    go (no under) = let same : m ≡ n = omega arith in ap (pageIn l) same
+
+pub page-of-number : PageOfNumber
+page-of-number s number = go (opening s) refl
+  where
+    go : (k : Check) → opening s ≡ k → pageOutcome s (pageOfNumber number) ≡ pageOutcome s number
+    go silent e = ap (after (opening s)) (page-in (layoutOf s) (pageOfNumber number) number (pages-few s e) refl)
+    go (refused n p) e = after-said _ e ∙ sym (after-said _ e)

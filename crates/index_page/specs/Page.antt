@@ -2,12 +2,14 @@
 use mathlib.Core.Path.{_≡_}
 use mathlib.Core.Bool.{cond}
 use mathlib.Core.List.{List, [], _∷_}
-use Prim.Native.Nat.{ℕ, _+_}
+use Prim.Native.Nat.{ℕ, _+_, _<_, min}
 use lib.Dec.{ltb}
+use Rattle.refusal.specs.Check.{silent}
 use Rattle.refusal.specs.Outcome.{Outcome, answered, absent, refusal, after}
 use Rattle.index_layout.specs.declared.Layout.{Layout}
 use Rattle.index_layout.specs.Layout.{pageSize, hashLength, onPage, entryNumber, pageAt, lastKeyAt, pageHashAt, layoutOf}
 use Rattle.index_open.specs.Open.{opening}
+use Rattle.index_entry.specs.Entry.{valuesAt, entryOutcome}
 use Rattle.index_page.specs.declared.Places.{Places}
 use Rattle.index_page.specs.declared.Answer.{Answer}
 use Rattle.index_page.specs.declared.Answer.the-variants.{Found, Absent, Refused}
@@ -56,6 +58,19 @@ outcome (Found p) = answered (values p)
 outcome Absent = absent []
 outcome (Refused r) = refusal (r .number) (r .place)
 
--- The entry in slot i of page p has the number of the page's first entry plus i (rule I31).
-abbrev pub EntriesOfPage : Layout → Type 0
-EntriesOfPage l = (p i : ℕ) → firstEntry l p + i ≡ entryNumber l p i
+-- The page of a number that comes from outside: the greatest that the code holds for any above it. No index has that page, so the
+-- answer is that of the number itself (`PageOfNumber`).
+abbrev pub greatestPage : ℕ
+greatestPage = 4294967295
+
+abbrev pub pageOfNumber : ℕ → ℕ
+pageOfNumber number = min number greatestPage
+
+abbrev pub PageOfNumber : Type 0
+PageOfNumber = (s : List ℕ) (number : ℕ) → pageOutcome s (pageOfNumber number) ≡ pageOutcome s number
+
+-- Entry `first + i`, by its number (rule I27), is the one in slot i of page p (rule I31).
+abbrev pub EntriesOfPage : Type 0
+EntriesOfPage =
+    (s : List ℕ) (p i : ℕ) → opening s ≡ silent → i < onPage (layoutOf s) p
+    → entryOutcome s (firstEntry (layoutOf s) p + i) ≡ answered (valuesAt s (layoutOf s) p i)

@@ -8,6 +8,9 @@ use refusal::Refusal;
 ghost use mathlib.Core.Path.{_≡_};
 ghost use Rattle.index_page.specs.Page as spec;
 
+// The greatest number that a `Page` holds.
+const GREATEST_PAGE: u64 = 4_294_967_295;
+
 // A page: its place, the places of its stored last key and hash and the key's length, the number of its first entry and how many
 // it has.
 pub struct Places {
@@ -41,17 +44,27 @@ fn places_of(l: Layout, page: Page) -> Places
     }
 }
 
-// The page of a number. Refusals 1 to 5; no page is checked.
-pub fn find(index: &[u8], page: u64) -> Answer
-    ensures { λ r. ⌜ spec.outcome r ≡ spec.pageOutcome (now (index .entry)) page ⌝ }
+// A page. Refusals 1 to 5; no page is checked.
+pub fn find(index: &[u8], page: Page) -> Answer
+    ensures { λ r. ⌜ spec.outcome r ≡ spec.pageOutcome (now (index .entry)) (page .0) ⌝ }
 {
     match index_open::open(index) {
         Checked::Refused(r) => Answer::Refused(r),
         Checked::Passed(l) => {
-            if l.pages as u64 <= page {
+            if l.pages <= page.0 {
                 return Answer::Absent;
             }
-            Answer::Found(places_of(l, Page(page as u32)))
+            Answer::Found(places_of(l, page))
         }
     }
+}
+
+// The page of a number that comes from outside: the greatest for any above it, which no index has.
+pub fn page_of(number: u64) -> Page
+    ensures { λ r. ⌜ r .0 ≡ spec.pageOfNumber number ⌝ }
+{
+    if number > GREATEST_PAGE {
+        return Page(GREATEST_PAGE as u32);
+    }
+    Page(number as u32)
 }
