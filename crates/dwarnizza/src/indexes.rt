@@ -122,7 +122,7 @@ pub extern "C" fn dwarnizza_index_page(index: &[u8], page: u64, answer: &mut [u6
     ensures { λ r. ⌜ r ≡ result (pageOutcome (now (index .entry)) page) ⌝ }
     ensures { λ _. ⌜ now (answer .exit) ≡ answerWords (pageOutcome (now (index .entry)) page) ⌝ }
 {
-    match index_page::find(index, page) {
+    match index_page::find(index, index_page::page_of(page)) {
         index_page::Answer::Refused(r) => refused(r, answer),
         index_page::Answer::Absent => {
             *answer = [0u64; 8];

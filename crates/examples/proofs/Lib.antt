@@ -7,3 +7,4 @@ mod Encoding
 pub mod NoEntries
 pub mod Examples
 pub mod FiveDigits
+pub mod Blocks

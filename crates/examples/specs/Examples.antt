@@ -12,8 +12,7 @@ use Rattle.index_layout.specs.Layout.{full, layoutWith, layoutOf}
 use Rattle.index_open.specs.Open.{opening}
 use Rattle.writer.specs.Write.{writeOutcome}
 use Rattle.lookup.specs.Lookup as index
-use Rattle.root_layout.specs.Layout.{later}
-use Rattle.root_layout.specs.Header.{openOutcome, layoutValues}
+use Rattle.root_layout.specs.Header.{openOutcome}
 use Rattle.root.specs.Lookup as root
 use Rattle.key_text.specs.Text.{textCheck, textBytes, carried}
 use Rattle.text.specs.Text.{ascii}
@@ -110,15 +109,20 @@ m9 =
     ∷ (textCheck (ascii "0") 1 is refused 60 0)
     ∷ []
 
+-- What is told of a file whose blocks begin at byte `start`, in the literals of the rules: locale flags first (1), content flags of four
+-- bytes (0 for five), 5 unknown bytes, all name hashes after all keys (0), and none with content bit 13 (8192).
+abbrev pub laidOut : ℕ → Outcome
+laidOut start = answered (start ∷ 1 ∷ 0 ∷ 5 ∷ 0 ∷ 8192 ∷ [])
+
 -- X10 (m10): short headers, a refused one and long ones: how the blocks are laid out, and where the lookup of
 -- id 5 finds the key of a block that stands right after that header.
 abbrev pub m10 : List Row
 m10 =
-    (openOutcome (rootWith 15 12 (pos 5 ∷ [])) is answered (layoutValues (later 12)))
-    ∷ (openOutcome (rootWith 100 12 (pos 5 ∷ [])) is answered (layoutValues (later 12)))
+    (openOutcome (rootWith 15 12 (pos 5 ∷ [])) is laidOut 12)
+    ∷ (openOutcome (rootWith 100 12 (pos 5 ∷ [])) is laidOut 12)
     ∷ (openOutcome (rootWith 16 16 (pos 5 ∷ [])) is refusal 42 0)
-    ∷ (openOutcome (rootWith 20 20 (pos 5 ∷ [])) is answered (layoutValues (later 20)))
-    ∷ (openOutcome (rootWith 99 99 (pos 5 ∷ [])) is answered (layoutValues (later 99)))
+    ∷ (openOutcome (rootWith 20 20 (pos 5 ∷ [])) is laidOut 20)
+    ∷ (openOutcome (rootWith 99 99 (pos 5 ∷ [])) is laidOut 99)
     ∷ (rootLookup (rootWith 15 12 (pos 5 ∷ [])) 5 is answered (33 ∷ []))
     ∷ (rootLookup (rootWith 100 12 (pos 5 ∷ [])) 5 is answered (33 ∷ []))
     ∷ (rootLookup (rootWith 16 16 (pos 5 ∷ [])) 5 is refusal 42 0)

@@ -7,10 +7,6 @@ use Rattle.parts.specs.Part.{partsFrom}
 use Rattle.md5.specs.Message.{littleBytes}
 use Rattle.text.specs.Text.{ascii}
 use Rattle.writer.specs.declared.Settings.{Settings}
-use Rattle.root_layout.specs.Layout.{unknownSize, noNameHashes}
-use Rattle.root_layout.specs.Header.{shortHeader}
-use Rattle.root_block.specs.Ids.{modulus}
-use Rattle.root_block.specs.Block.{keySize}
 use Rattle.spec_table.specs.Specs.{runOf}
 
 -- ---- archive index
@@ -39,26 +35,27 @@ list n = partsFrom entry 0 n
 
 -- ---- root file
 
--- A signed number in four bytes, lowest first.
+-- A signed number in four bytes, lowest first; -1 is 4,294,967,295.
 abbrev pub signedBytes : ℤ → List ℕ
 signedBytes (pos n) = littleBytes 4 n
-signedBytes (negsuc n) = littleBytes 4 (modulus - 1 - n)
+signedBytes (negsuc n) = littleBytes 4 (4294967295 - n)
 
 abbrev pub deltaBytes : List ℤ → List ℕ
 deltaBytes [] = []
 deltaBytes (d ∷ ds) = signedBytes d ++ deltaBytes ds
 
--- A block of these deltas: locale flags 1, no name hashes; the unknown bytes and the keys are zeros.
+-- A block of these deltas: their count, locale flags 1, content flags with bit 13 alone (8192: no name hashes), 4 and 1 unknown bytes,
+-- the deltas, and 16 bytes for each key. Unknown bytes and keys are zeros.
 abbrev pub block : List ℤ → List ℕ
 block deltas =
-    littleBytes 4 (length deltas) ++ littleBytes 4 1 ++ littleBytes 4 noNameHashes ++ replicate unknownSize 0
+    littleBytes 4 (length deltas) ++ littleBytes 4 1 ++ littleBytes 4 8192 ++ replicate 5 0
     ++ deltaBytes deltas
-    ++ replicate (keySize * length deltas) 0
+    ++ replicate (16 * length deltas) 0
 
--- A root file with the numbers a and b = 2, and a block of these deltas at byte `start`.
+-- A root file with the numbers a and b = 2, which end at byte 12, and a block of these deltas at byte `start`.
 abbrev pub rootWith : (a start : ℕ) → List ℤ → List ℕ
 rootWith a start deltas =
-    ascii "MFST" ++ littleBytes 4 a ++ littleBytes 4 2 ++ replicate (start - shortHeader) 0 ++ block deltas
+    ascii "MFST" ++ littleBytes 4 a ++ littleBytes 4 2 ++ replicate (start - 12) 0 ++ block deltas
 
 -- With a header of 20 bytes.
 abbrev pub rootOf : List ℤ → List ℕ

@@ -1,3 +1,4 @@
 pub mod Inputs
 pub mod Examples
 pub mod FiveDigits
+pub mod Blocks

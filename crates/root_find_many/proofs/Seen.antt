@@ -26,7 +26,7 @@ use Rattle.root_block.specs.Block.{blockOf, deltasOf, blockCheck, counts}
 use Rattle.root_block.specs.declared.Block.{Block}
 use Rattle.root_block.proofs.Laws.{block-fits, deltas-length, key-inside}
 use Rattle.root_block.proofs.Signed.{reckoned}
-use Rattle.root_block.proofs.Gathered.{idBefore}
+use Rattle.root_block.proofs.Reckoned.{idBefore}
 use Rattle.root.specs.Root.{sizeAt, blocksAfter, blocksBy, blocksCheck}
 use Rattle.root.specs.Lookup.{Record, recordAt, recordsFrom, recordsIn, recordsBy, isId, wanted, foundIn, keyOr}
 use Rattle.root.proofs.Walk.{Walk, walk-here, walk-end}

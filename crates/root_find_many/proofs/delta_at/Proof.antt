@@ -3,7 +3,7 @@ use mathlib.Core.Path.{refl, _∙_}
 use Prim.Native.Nat.{_*_}
 use mir.Syntax.{w32}
 use mir.Facts.{toZ-ofZ}
-use Rattle.root_block.proofs.Gathered.{delta-is}
+use Rattle.root_block.proofs.Reckoned.{delta-is}
 use borrow.Author.Needs.{needs}
 use Rattle.root_find_many.proofs.delta_at.Statement.{statement}
 use Rattle.root_find_many.proofs.delta_at.Tie as tie

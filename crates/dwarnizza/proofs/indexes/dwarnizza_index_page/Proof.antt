@@ -1,61 +1,49 @@
--- `dwarnizza::indexes::dwarnizza_index_page`: what `index_page::find` answers, laid out.
-use mathlib.Core.Path.{sym, ap, _∙_}
-use Rattle.index_page.specs.Page.{values, outcome}
+-- `dwarnizza::indexes::dwarnizza_index_page`: what `index_page::find` answers for the page of the number, laid out.
+use mathlib.Core.Path.{_≡_, sym, ap, _∙_}
+use Rattle.index_page.specs.Page.{values, outcome, pageOutcome}
+use Rattle.index_page.proofs.Laws.{page-of-number}
 use Rattle.dwarnizza.specs.Answer.{result, answerWords}
 use borrow.Author.Needs.{needs}
 use Rattle.dwarnizza.proofs.indexes.dwarnizza_index_page.Statement.{statement}
 use Rattle.dwarnizza.proofs.indexes.dwarnizza_index_page.Tie as tie
 
-find-requires : tie.Need-find-requires
-find-requires c κs = search needs
+-- the answer is that of the number, and at the start stand the index and the number
+abbrev begun : tie.After-find → tie.Start
+begun c = c .before .before .before .before
 
-enum-known-r : tie.Need-enum-known-r
-enum-known-r c = search needs
-
-refused-requires : tie.Need-refused-requires
-refused-requires c κs = search needs
-
-enum-told : tie.Need-enum-told
-enum-told c = search needs
-
-enum-known-p : tie.Need-enum-known-p
-enum-known-p c = search needs
-
-cast-key-length : tie.Need-cast-key-length
-cast-key-length c = search needs
-
-cast-hash-length : tie.Need-cast-hash-length
-cast-hash-length c = search needs
+found : (c : tie.After-find) → outcome (c .find .result) ≡ pageOutcome (begun c .args .index .now) (begun c .args .page)
+found c = c .find .ensures ∙ ap (pageOutcome (begun c .args .index .now)) (c .before .page-of .ensures) ∙ page-of-number _ _
 
 returns : tie.Need-returns
 unfolding outcome
 returns c =
-    let e = sym (ap outcome (c .before .before .before .r .given .1)) ∙ c .before .before .before .before .before .find .ensures in
+    let e = sym (ap outcome (c .before .before .before .r .given .1)) ∙ found (c .before .before .before .before .before) in
     (c .refused .ensures .0 ∙ ap result e, c .refused .ensures .1 ∙ ap answerWords e)
 
 returns-2 : tie.Need-returns-2
 unfolding outcome result answerWords
 returns-2 c =
-    let e = sym (ap outcome (c .before .enum-told .given .1)) ∙ c .before .before .before .find .ensures in
+    let e = sym (ap outcome (c .before .enum-told .given .1)) ∙ found (c .before .before .before) in
     (ap result e, ap answerWords e)
 
 returns-3 : tie.Need-returns-3
 unfolding outcome values result answerWords
 returns-3 c =
-    let e = sym (ap outcome (c .before .before .before .p .given .1)) ∙ c .before .before .before .before .before .find .ensures in
+    let e = sym (ap outcome (c .before .before .before .p .given .1)) ∙ found (c .before .before .before .before .before) in
     (ap result e, ap answerWords e)
 
 pub dwarnizza-index-page-spec : {M : Type 1} → statement M
 dwarnizza-index-page-spec =
     tie.close
     (tie.spec
-    find-requires
-    enum-known-r
-    refused-requires
-    enum-told
-    enum-known-p
-    cast-key-length
-    cast-hash-length
+    (λ c κs. search needs)
+    (λ c κs. search needs)
+    (λ c. search needs)
+    (λ c κs. search needs)
+    (λ c. search needs)
+    (λ c. search needs)
+    (λ c. search needs)
+    (λ c. search needs)
     returns
     returns-2
     returns-3)

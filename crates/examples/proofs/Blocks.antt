@@ -1,0 +1,12 @@
+-- Where things stand in a root block.
+use mathlib.Core.Path.{refl}
+use Prim.{tt}
+use Rattle.field.specs.Number.{littleAt}
+use Rattle.root_layout.specs.Layout.{headerSize}
+use Rattle.root_block.specs.Block.{blockOf, blockSize, keyAt, hashAt}
+use Rattle.examples.specs.Blocks.{blockRows, BlockExamples}
+use Rattle.examples.proofs.Laws.{each}
+
+pub block-examples : BlockExamples
+unfolding hashAt keyAt blockSize blockOf headerSize littleAt
+block-examples = each blockRows (refl, (refl, (refl, (refl, (refl, (refl, (refl, (refl, tt))))))))
