@@ -60,92 +60,99 @@ plain-part s at (suc k) inside some mode =
     ap (take (suc k)) (drop-cons s at 0 (omega arith)) ∙ ap₂ _∷_ mode (ap₂ (λ m r. take m (drop r s)) less next)
 
 module _ (s key : List ℕ) (e : contentCheck s key ≡ silent) where
-  after-opening : first (envelopeKeyCheck s key) (chunksCheck s (headerOf s)) ≡ silent
+  abbrev h : Header
+  h = headerOf s
+
+  after-opening : first (envelopeKeyCheck s key) (chunksCheck s h) ≡ silent
   unfolding contentCheck
-  after-opening = first-right (opening s) (first (envelopeKeyCheck s key) (chunksCheck s (headerOf s))) e
+  after-opening = first-right (opening s) (first (envelopeKeyCheck s key) (chunksCheck s h)) e
 
-  chunk-silent : (i : ℕ) → i < chunkCount (headerOf s) → chunkCheck s (headerOf s) i ≡ silent
+  chunk-silent : (i : ℕ) → i < chunkCount h → chunkCheck s h i ≡ silent
   unfolding chunksCheck
-  chunk-silent i l = simp zero-add at (from-each (chunkCheck s (headerOf s)) 0 (chunkCount (headerOf s)) (first-right (envelopeKeyCheck s key) (chunksCheck s (headerOf s)) after-opening) i l)
+  chunk-silent i l = simp zero-add at (from-each (chunkCheck s h) 0 (chunkCount h) (first-right (envelopeKeyCheck s key) (chunksCheck s h) after-opening) i l)
 
-  rest-silent : (i : ℕ) → i < chunkCount (headerOf s) → first (modeCheck s (headerOf s) i) (decodedCheck s (headerOf s) i) ≡ silent
+  rest-silent : (i : ℕ) → i < chunkCount h → first (modeCheck s h i) (decodedCheck s h i) ≡ silent
   unfolding chunkCheck
-  rest-silent i l = first-right (hashCheck s (headerOf s) i) (first (modeCheck s (headerOf s) i) (decodedCheck s (headerOf s) i)) (chunk-silent i l)
+  rest-silent i l = first-right (hashCheck s h i) (first (modeCheck s h i) (decodedCheck s h i)) (chunk-silent i l)
 
   key-same : envelopeKey s ≡ key
   unfolding envelopeKeyCheck
   key-same =
-      let keyed = first-left (envelopeKeyCheck s key) (chunksCheck s (headerOf s)) after-opening in
-      let last = first-right (limitCheck s (headerOf s)) (refusedIf (not (sameBytes (envelopeKey s) key)) envelope-key 0)
-      (first-right (refusedIf (not (eqb (length key) 16)) envelope-key 0) (first (limitCheck s (headerOf s)) (refusedIf (not (sameBytes (envelopeKey s) key)) envelope-key 0)) keyed) in
+      let keyed = first-left (envelopeKeyCheck s key) (chunksCheck s h) after-opening in
+      let last = first-right (limitCheck s h) (refusedIf (not (sameBytes (envelopeKey s) key)) envelope-key 0)
+      (first-right (refusedIf (not (eqb (length key) 16)) envelope-key 0) _ keyed) in
       sameBytes-eq (envelopeKey s) key (not-false _ (silent-test (not (sameBytes (envelopeKey s) key)) envelope-key 0 last))
 
-  mode-right : (i : ℕ) → i < chunkCount (headerOf s) → modeOf s (headerOf s) i ≡ plainMode
+  mode-right : (i : ℕ) → i < chunkCount h → modeOf s h i ≡ plainMode
   unfolding modeCheck
-  mode-right i l = eqb-true _ _ (not-false _ (silent-test (not (eqb (modeOf s (headerOf s) i) plainMode)) chunk-mode i (first-left (modeCheck s (headerOf s) i) (decodedCheck s (headerOf s) i) (rest-silent i l))))
+  mode-right i l =
+      let mode = first-left (modeCheck s h i) (decodedCheck s h i) (rest-silent i l) in
+      eqb-true _ _ (not-false _ (silent-test (not (eqb (modeOf s h i) plainMode)) chunk-mode i mode))
 
-  sizes : sizesCheck s (headerOf s) ≡ silent
-  sizes = judged-sizes s key (headerOf s) e refl
+  sizes : sizesCheck s h ≡ silent
+  sizes = judged-sizes s key h e refl
 
-  chunk-plain : (i : ℕ) → i < chunkCount (headerOf s) → chunkOf s (headerOf s) i ≡ plainChunk (contentOf s (headerOf s) i)
-  chunk-plain i l = plain-part s _ _ (inside s (headerOf s) sizes i l) (not-empty s (headerOf s) sizes i l) (mode-right i l)
+  chunk-plain : (i : ℕ) → i < chunkCount h → chunkOf s h i ≡ plainChunk (contentOf s h i)
+  chunk-plain i l = plain-part s _ _ (inside s h sizes i l) (not-empty s h sizes i l) (mode-right i l)
 
   -- from chunk i on the file is the chunks
-  chunks-from : (i n : ℕ) → i + n ≡ chunkCount (headerOf s)
-      → drop (chunkAt s (headerOf s) i) s ≡ plainChunks (contentsFrom (contentOf s (headerOf s)) i n)
+  chunks-from : (i n : ℕ) → i + n ≡ chunkCount h
+      → drop (chunkAt s h i) s ≡ plainChunks (contentsFrom (contentOf s h) i n)
   unfolding contentsFrom plainChunks chunkAt
   chunks-from i zero l =
-      let end : i ≡ chunkCount (headerOf s) = omega arith in
-      drop-of-length-le s {i = chunkAt s (headerOf s) i} (omega (arith, whole s (headerOf s) sizes, ap (chunkAt s (headerOf s)) end))
+      let end : i ≡ chunkCount h = omega arith in
+      drop-of-length-le s {i = chunkAt s h i} (omega (arith, whole s h sizes, ap (chunkAt s h) end))
   chunks-from i (suc n) l =
-      let size = encodedSize s (headerOf s) i in
-      sym (take-append-drop size (drop (chunkAt s (headerOf s) i) s))
-      ∙ ap₂ _++_ (chunk-plain i (omega arith)) (drop-drop size (chunkAt s (headerOf s) i) s ∙ chunks-from (suc i) n (omega arith))
+      let size = encodedSize s h i in
+      sym (take-append-drop size (drop (chunkAt s h i) s))
+      ∙ ap₂ _++_ (chunk-plain i (omega arith)) (drop-drop size (chunkAt s h i) s ∙ chunks-from (suc i) n (omega arith))
 
-  content-is : (i : ℕ) → i < chunkCount (headerOf s) → contentAt (contentsOf s) i ≡ contentOf s (headerOf s) i
+  content-is : (i : ℕ) → i < chunkCount h → contentAt (contentsOf s) i ≡ contentOf s h i
   unfolding contentsOf
-  content-is i l = contents-at (contentOf s (headerOf s)) 0 (chunkCount (headerOf s)) i l ∙ ap (contentOf s (headerOf s)) (zero-add i)
+  content-is i l = contents-at (contentOf s h) 0 (chunkCount h) i l ∙ ap (contentOf s h) (zero-add i)
 
-  encoded-right : (i : ℕ) → i < chunkCount (headerOf s) → length (plainChunk (contentAt (contentsOf s) i)) ≡ encodedSize s (headerOf s) i
+  encoded-right : (i : ℕ) → i < chunkCount h → length (plainChunk (contentAt (contentsOf s) i)) ≡ encodedSize s h i
   encoded-right i l =
-      omega (arith, ap length (content-is i l), content-length s (headerOf s) sizes i l, not-empty s (headerOf s) sizes i l)
+      omega (arith, ap length (content-is i l), content-length s h sizes i l, not-empty s h sizes i l)
 
   pub opens : Opens s key (contentsOf s)
   unfolding contentBy contentsOf chunkAt
   opens = record {
     key-right = key-same;
-    count = contents-count (contentOf s (headerOf s)) 0 (chunkCount (headerOf s));
+    count = contents-count (contentOf s h) 0 (chunkCount h);
     encoded = encoded-right;
-    file = sym (take-append-drop (headerLength (headerOf s)) s)
-        ∙ ap (λ r. take (headerLength (headerOf s)) s ++ r) (chunks-from 0 (chunkCount (headerOf s)) (zero-add _));
-    content-joined = sym (contents-joined (contentOf s (headerOf s)) 0 (chunkCount (headerOf s)));
+    file = sym (take-append-drop (headerLength h) s)
+        ∙ ap (λ r. take (headerLength h) s ++ r) (chunks-from 0 (chunkCount h) (zero-add _));
+    content-joined = sym (contents-joined (contentOf s h) 0 (chunkCount h));
   }
 
-  module _ (table : tabled (headerOf s) ≡ true) where
-    of-table : (test : Bool) → (tabled (headerOf s) && not test) ≡ false → test ≡ true
+  module _ (table : tabled h ≡ true) where
+    of-table : (test : Bool) → (tabled h && not test) ≡ false → test ≡ true
     of-table test f = not-false test (ap (λ t. t && not test) (sym table) ∙ f)
 
-    hash-right : (i : ℕ) → i < chunkCount (headerOf s) → md5 (chunkOf s (headerOf s) i) ≡ chunkHash s i
+    hash-right : (i : ℕ) → i < chunkCount h → md5 (chunkOf s h i) ≡ chunkHash s i
     unfolding chunkCheck hashCheck
     hash-right i l =
-        sameBytes-eq _ _ (of-table (sameBytes (md5 (chunkOf s (headerOf s) i)) (chunkHash s i)) (silent-test _ chunk-hash i (first-left (hashCheck s (headerOf s) i) (first (modeCheck s (headerOf s) i) (decodedCheck s (headerOf s) i)) (chunk-silent i l))))
+        let hash = first-left (hashCheck s h i) (first (modeCheck s h i) (decodedCheck s h i)) (chunk-silent i l) in
+        sameBytes-eq _ _ (of-table (sameBytes (md5 (chunkOf s h i)) (chunkHash s i)) (silent-test _ chunk-hash i hash))
 
-    size-right : (i : ℕ) → i < chunkCount (headerOf s) → decodedSize s i ≡ encodedSize s (headerOf s) i - 1
+    size-right : (i : ℕ) → i < chunkCount h → decodedSize s i ≡ encodedSize s h i - 1
     unfolding decodedCheck
     size-right i l =
-        eqb-true _ _ (of-table (eqb (decodedSize s i) (encodedSize s (headerOf s) i - 1)) (silent-test _ decoded-size i (first-right (modeCheck s (headerOf s) i) (decodedCheck s (headerOf s) i) (rest-silent i l))))
+        let size = first-right (modeCheck s h i) (decodedCheck s h i) (rest-silent i l) in
+        eqb-true _ _ (of-table (eqb (decodedSize s i) (encodedSize s h i - 1)) (silent-test _ decoded-size i size))
 
-    sum-from : (i n : ℕ) → i + n ≤ chunkCount (headerOf s) → length (partsFrom (contentOf s (headerOf s)) i n) ≡ decodedFrom s i n
+    sum-from : (i n : ℕ) → i + n ≤ chunkCount h → length (partsFrom (contentOf s h) i n) ≡ decodedFrom s i n
     unfolding partsFrom decodedFrom
     sum-from i zero l = refl
     sum-from i (suc n) l =
-        length-append (contentOf s (headerOf s) i) (partsFrom (contentOf s (headerOf s)) (suc i) n)
-        ∙ ap₂ _+_ (content-length s (headerOf s) sizes i (omega arith) ∙ sym (size-right i (omega arith))) (sum-from (suc i) n (omega arith))
+        length-append (contentOf s h i) (partsFrom (contentOf s h) (suc i) n)
+        ∙ ap₂ _+_ (content-length s h sizes i (omega arith) ∙ sym (size-right i (omega arith))) (sum-from (suc i) n (omega arith))
 
     pub opens-table : OpensTable s (contentsOf s)
     unfolding contentsOf
     opens-table = record {
       hash = λ i l. ap (λ c. md5 (plainChunk c)) (content-is i l) ∙ ap md5 (sym (chunk-plain i l)) ∙ hash-right i l;
-      decoded = λ i l. ap length (content-is i l) ∙ content-length s (headerOf s) sizes i l ∙ sym (size-right i l);
-      sum = ap length (contents-joined (contentOf s (headerOf s)) 0 (chunkCount (headerOf s))) ∙ sum-from 0 (chunkCount (headerOf s)) (omega arith);
+      decoded = λ i l. ap length (content-is i l) ∙ content-length s h sizes i l ∙ sym (size-right i l);
+      sum = ap length (contents-joined (contentOf s h) 0 (chunkCount h)) ∙ sum-from 0 (chunkCount h) (omega arith);
     }
