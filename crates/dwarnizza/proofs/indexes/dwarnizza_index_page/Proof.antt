@@ -7,9 +7,9 @@ use borrow.Author.Needs.{needs}
 use Rattle.dwarnizza.proofs.indexes.dwarnizza_index_page.Statement.{statement}
 use Rattle.dwarnizza.proofs.indexes.dwarnizza_index_page.Tie as tie
 
--- the answer is that of the number, and at the start stand the index and the number
+-- the answer is that of the number itself
 abbrev begun : tie.After-find → tie.Start
-begun c = c .before .before .before .before
+begun c = c .before .before .before
 
 found : (c : tie.After-find) → outcome (c .find .result) ≡ pageOutcome (begun c .args .index .now) (begun c .args .page)
 found c = c .find .ensures ∙ ap (pageOutcome (begun c .args .index .now)) (c .before .page-of .ensures) ∙ page-of-number _ _
