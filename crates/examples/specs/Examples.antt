@@ -109,8 +109,8 @@ m9 =
     ∷ (textCheck (ascii "0") 1 is refused 60 0)
     ∷ []
 
--- What is told of a file whose blocks begin at byte `start`, in the literals of the rules: locale flags first (1), content flags of four
--- bytes (0 for five), 5 unknown bytes, all name hashes after all keys (0), and none with content bit 13 (8192).
+-- What is told of a file whose blocks begin at byte `start`, in literals: locale flags first (1), content flags of four bytes and not
+-- five (0), 5 unknown bytes, name hashes after all keys and not each after its own (0), and none with content bit 13 (8192).
 abbrev pub laidOut : ℕ → Outcome
 laidOut start = answered (start ∷ 1 ∷ 0 ∷ 5 ∷ 0 ∷ 8192 ∷ [])
 
