@@ -14,8 +14,8 @@ use Rattle.parts.proofs.Laws.{by-test, partAt-byte, overlay-length, overlay-non
 use Rattle.parts.proofs.Parts.{parts-length, parts-part, part-laid}
 use Rattle.root.specs.Lookup.{foundIn, keyOr}
 use Rattle.root.proofs.First.{key-laid}
-use Rattle.root_find_many.specs.Many.{idCount, idAt, foundFlag, entryFor}
-use Rattle.root_find_many.specs.Ids.{Rising, Between}
+use Rattle.id_list.specs.Ids.{idCount, idAt}
+use Rattle.root_find_many.specs.Many.{foundFlag, entryFor}
 use Rattle.root_find_many.specs.Entries.{entryAt, Room, Held, Kept, foundEntry, turned, entryBy}
 
 -- ---- bytes laid over others
@@ -94,21 +94,6 @@ module _ (ids old new : List ℕ) (room : Room ids old) (e : new ≡ partsFrom b
     each = λ j l. ap (λ r. entryAt r j) e ∙ parts-part blank 20 (idCount ids) (drop (20 * idCount ids) old) (λ k h. refl) j l;
   }
 
--- ---- the ids that equal a sought one
-
-module _ (ids : List ℕ) (rising : Rising ids) (id place : ℕ) (b : Between ids id place place) where
-  -- behind an id from the place on that is another, all are
-  pub none-behind : (i : ℕ) → place ≤ i → i < idCount ids → (idAt ids i ≡ id → ⊥) → (j : ℕ) → i ≤ j → j < idCount ids → idAt ids j ≡ id → ⊥
-  none-behind i p l other j h k e =
-      omega (arith, rising .rise i j h k, rising .rise place i p l, b .stops (omega arith), other)
-
-  pub none-before : (j : ℕ) → j < place → idAt ids j ≡ id → ⊥
-  none-before j h e = omega (arith, b .before j h)
-
-  pub none-at : place < idCount ids → (idAt ids place ≡ id → ⊥) → (j : ℕ) → j < idCount ids → idAt ids j ≡ id → ⊥
-  none-at l other j h =
-      by-test (ltb j place) (λ t. none-before j (ltb-true j place t)) (λ t. none-behind place (omega arith) l other j (ltb-false j place t) h)
-
 -- ---- an entry for each of them
 
 -- The ids up to i that equal the sought one have the entry.
@@ -117,13 +102,13 @@ pub record Putting (ids entry : List ℕ) (id from i : ℕ) (old new : List ℕ)
   pub kept : Kept ids old new
   pub laid : (j : ℕ) → j < idCount ids → entryAt new j ≡ cond (ltb j i && eqb (idAt ids j) id) entry (entryAt old j)
 
-module _ (ids entry : List ℕ) (id from : ℕ) (old : List ℕ) (b : Between ids id from from) where
+module _ (ids entry : List ℕ) (id from : ℕ) (old : List ℕ) (none : (j : ℕ) → j < from → idAt ids j ≡ id → ⊥) where
   pub putting-none : Putting ids entry id from from old old
   putting-none = record {
     forward = omega arith;
     kept = kept-same ids old;
     laid = λ j h. sym (by-test (ltb j from)
-        (λ t. ap (λ x. cond (ltb j from && x) entry (entryAt old j)) (ne-eqb (idAt ids j) id (λ e. omega (arith, b .before j (ltb-true j from t))))
+        (λ t. ap (λ x. cond (ltb j from && x) entry (entryAt old j)) (ne-eqb (idAt ids j) id (none j (ltb-true j from t)))
         ∙ ap (λ x. cond x entry (entryAt old j)) (and-false (ltb j from)))
         (λ t. ap (λ x. cond (x && eqb (idAt ids j) id) entry (entryAt old j)) t));
   }

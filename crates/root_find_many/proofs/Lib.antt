@@ -1,4 +1,3 @@
-pub mod Listed
 pub mod Laid
 pub mod Seen
 pub mod Whole

@@ -10,11 +10,12 @@ use Rattle.parts.proofs.Parts.{parts-same, parts-of}
 use Rattle.refusal.specs.Check.{silent, refused}
 use Rattle.refusal.specs.Number.{output-short}
 use Rattle.refusal.proofs.Laws.{said, quiet, first-said, skip, after-quiet}
+use Rattle.id_list.specs.Ids.{idCount, idAt, idsCheck}
 use Rattle.root_layout.specs.declared.Layout.{Layout}
 use Rattle.root_layout.specs.Header.{layoutOf}
 use Rattle.root.specs.Root.{rootCheck}
 use Rattle.root.specs.Lookup.{recordsBy, wanted, foundIn, lookupOf}
-use Rattle.root_find_many.specs.Many.{idCount, idAt, entryFor, manyBytes, idsCheck, manyCheck}
+use Rattle.root_find_many.specs.Many.{entryFor, manyBytes, manyCheck}
 use Rattle.root_find_many.specs.Entries.{entryAt, Room, Held, Kept, entryBy}
 
 module _ (s ids : List ℕ) (room : ℕ) where

@@ -8,11 +8,12 @@ use lib.ListN.{length, drop}
 use Rattle.parts.specs.Part.{byteAt, partAt}
 use Rattle.refusal.specs.Check.{silent}
 use Rattle.refusal.specs.Outcome.{answered}
+use Rattle.id_list.specs.Ids.{idCount, idAt}
 use Rattle.root_layout.specs.declared.Layout.{Layout}
 use Rattle.root_block.specs.declared.Block.{Block}
 use Rattle.root_block.specs.Block.{blockOf, deltasOf, blockCheck, counts}
 use Rattle.root.specs.Lookup.{Record, recordsFrom, wanted, foundIn}
-use Rattle.root_find_many.specs.Many.{entrySize, idCount, idAt, entryFor}
+use Rattle.root_find_many.specs.Many.{entrySize, entryFor}
 
 abbrev pub entryAt : List ℕ → ℕ → List ℕ
 entryAt out j = partAt out (j * entrySize) entrySize

@@ -1,3 +1,2 @@
 pub mod Many
-pub mod Ids
 pub mod Entries

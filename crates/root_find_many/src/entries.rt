@@ -1,8 +1,7 @@
 // The entries of the ids in the output.
 use crate::ENTRY_SIZE;
-use crate::ID_SIZE;
-use crate::ids::id_at;
-use crate::ids::place;
+use id_list::place;
+use id_list::stands;
 use parts::copy;
 use parts::part;
 use root_block::KEY_SIZE;
@@ -13,8 +12,7 @@ ghost use Prim.Native.Nat.{_+_, _*_, _≤_};
 ghost use lib.Dec.{eqb};
 ghost use lib.ListN.{length, drop, replicate};
 ghost use Rattle.parts.specs.Part.{partsFrom};
-ghost use Rattle.root_find_many.specs.Many as spec;
-ghost use Rattle.root_find_many.specs.Ids.{Rising, Between};
+ghost use Rattle.id_list.specs.Place.{Placed, Rising};
 ghost use Rattle.root_find_many.specs.Entries.{Room, Kept, Turned, foundEntry, turned};
 
 // Entries of zeros: nothing is found yet.
@@ -44,17 +42,13 @@ fn entry_of(file: &[u8], at: usize) -> [u8; 20]
 // Puts an entry for every id that equals the sought one, which stand from a place on.
 fn put_equals(entry: &[u8; 20], ids: &[u8], id: u32, from: usize, output: &mut [u8])
     requires { ⌜ Rising (now ids) ⌝ }
-    requires { ⌜ Between (now ids) id from from ⌝ }
+    requires { ⌜ Placed (now ids) id from ⌝ }
     requires { ⌜ Room (now ids) (now output) ⌝ }
     ensures { λ _. ⌜ Kept (now (ids .entry)) (now (output .entry)) (now (output .exit)) ⌝ }
     ensures { λ _. ⌜ Turned (now (ids .entry)) (now (output .entry)) (now (output .exit)) (λ x e. cond (eqb x id) (now (entry .entry)) e) ⌝ }
 {
-    let n = ids.len() / ID_SIZE;
     let mut i = from;
-    while i < n {
-        if id_at(ids, i) != id {
-            return;
-        }
+    while stands(ids, i, id) {
         copy(entry, output, ENTRY_SIZE * i);
         i += 1;
     }
@@ -76,10 +70,7 @@ pub(crate) fn put_record(
     ensures { λ _. ⌜ Turned (now (ids .entry)) (now (output .entry)) (now (output .exit)) (turned (foundEntry (now (file .entry)) key) id) ⌝ }
 {
     let at = place(ids, id, guess);
-    if ids.len() / ID_SIZE <= at {
-        return at;
-    }
-    if id_at(ids, at) != id {
+    if !stands(ids, at, id) {
         return at;
     }
     if 0 < output[ENTRY_SIZE * at] {

@@ -1,7 +1,7 @@
 // Many file numbers looked up in a root file at once: one pass over its records, each of which is sought among the ids.
 use entries::clear;
 use entries::put_record;
-use ids::check_ids;
+use id_list::ID_SIZE;
 use refusal::OUTPUT_SHORT;
 use refusal::Refusal;
 use refusal::Verdict;
@@ -21,15 +21,11 @@ ghost use Rattle.root_block.specs.Block.{blockCheck};
 ghost use Rattle.root.specs.Root.{blocksBy, blocksCheck};
 ghost use Rattle.root.specs.Lookup.{recordsBy};
 ghost use Rattle.root_find_many.specs.Many as spec;
-ghost use Rattle.root_find_many.specs.Ids.{Rising};
+ghost use Rattle.id_list.specs.Place.{Rising};
 ghost use Rattle.root_find_many.specs.Entries.{Room, Held, Kept, entryBy, BlockAt, BlockPut, CountedPut};
 
 mod entries;
-mod ids;
-
-// The bytes of an id in the list, and of an entry in the output.
-pub const ID_SIZE: usize = 4;
-
+// The bytes of an entry in the output.
 pub const ENTRY_SIZE: usize = 20;
 
 // What the lookup answers: the bytes written, or a refusal.
@@ -149,7 +145,7 @@ pub fn find_many(file: &[u8], ids: &[u8], locale: u32, unwanted: u64, output: &m
     match judge(file) {
         Opened::Refused(r) => Written::Refused(r),
         Opened::Passed(l) => {
-            if let Verdict::Refused(r) = check_ids(ids) {
+            if let Verdict::Refused(r) = id_list::check(ids) {
                 return Written::Refused(r);
             }
             let n = ids.len() / ID_SIZE;

@@ -5,13 +5,14 @@ use lib.ListN.{length}
 use Rattle.refusal.specs.Check.{silent}
 use Rattle.refusal.specs.Output.{filled}
 use Rattle.refusal.proofs.Laws.{refused-is, passed-is, after-said, after-quiet}
+use Rattle.id_list.specs.Ids.{idsCheck}
+use Rattle.id_list.proofs.Laws.{ids-rise}
 use Rattle.root_layout.specs.Header.{layoutOf}
 use Rattle.root_layout.proofs.Laws.{passed-layout, refused-layout}
 use Rattle.root.specs.Root.{rootCheck}
 use Rattle.root.proofs.First.{root-passed}
-use Rattle.root_find_many.specs.Many.{idsCheck, manyBytes, outcome}
+use Rattle.root_find_many.specs.Many.{manyBytes, outcome}
 use Rattle.root_find_many.specs.Entries.{Room}
-use Rattle.root_find_many.proofs.Listed.{ids-rise}
 use Rattle.root_find_many.proofs.Whole.{root-refused, ids-refused, room-refused, all-passed, all-filled}
 use borrow.Author.Needs.{needs}
 use Rattle.root_find_many.proofs.find_many.Statement.{statement}
@@ -20,7 +21,7 @@ use Rattle.root_find_many.proofs.find_many.Reads as reads
 use Rattle.root_find_many.proofs.find_many.Lts as lts
 use Rattle.root.proofs.judge.Reads as judge-reads
 use Rattle.root_find_many.proofs.fill.Reads as fill-reads
-use Rattle.root_find_many.proofs.ids.check_ids.Reads as check-ids-reads
+use Rattle.id_list.proofs.check.Reads as check-reads
 
 abbrev start-at : tie.After-judge → tie.Start
 start-at c = c .before .before .before .before
@@ -34,7 +35,7 @@ opened c =
 
 -- the list passes its check
 listed : (c : tie.After-enum-told) → idsCheck (start-at (c .before .before .before .before .before .before) .args .ids .now) ≡ silent
-listed c = passed-is (c .before .before .check-ids .result) _ (c .before .before .check-ids .ensures) (c .enum-told .given .1)
+listed c = passed-is (c .before .before .check .result) _ (c .before .before .check .ensures) (c .enum-told .given .1)
 
 judge-requires : tie.Need-judge-requires
 judge-requires c κs = search needs
@@ -45,8 +46,8 @@ enum-known-r c = search needs
 enum-known-l : tie.Need-enum-known-l
 enum-known-l c = search needs
 
-check-ids-requires : tie.Need-check-ids-requires
-check-ids-requires c κs = search needs
+check-requires : tie.Need-check-requires
+check-requires c κs = search needs
 
 enum-known-r-2 : tie.Need-enum-known-r-2
 enum-known-r-2 c = search needs
@@ -57,7 +58,7 @@ returns c =
     let v = c .before .before .before in
     let l = v .before .before in
     let a = start-at (l .before .before) .args in
-    let falls = refused-is (v .check-ids .result) _ (v .check-ids .ensures) (c .before .r2 .given .1) in
+    let falls = refused-is (v .check .result) _ (v .check .ensures) (c .before .r2 .given .1) in
     let e = ids-refused (a .file .now) (a .ids .now) (length (a .output .now)) (opened l .0) falls in
     (sym (after-said _ e), sym (ap (λ t. filled t (manyBytes (a .file .now) (a .ids .now) (a .locale) (a .unwanted)) (a .output .now)) e))
 
@@ -117,7 +118,7 @@ find-many-spec =
     judge-requires
     enum-known-r
     enum-known-l
-    check-ids-requires
+    check-requires
     enum-known-r-2
     returns
     enum-told

@@ -1,70 +1,81 @@
 -- `root_find_many::entries::put_equals`: one entry more at each turn.
-use mathlib.Core.Path.{_≡_, refl, sym, ap, ap₂, _∙_}
-use Prim.Native.Nat.{ℕ, _+_, _-_, _*_, _≤_}
+use mathlib.Core.Path.{_≡_, sym, _∙_}
+use Prim.Native.Nat.{_-_, _<_}
 use native.Mathlib.Omega.{arith}
 use lib.ListN.{length}
-use Rattle.root_find_many.proofs.Laid.{Putting, putting-none, putting-next, putting-all, none-behind}
+use Rattle.id_list.specs.Ids.{idCount, idAt}
+use Rattle.id_list.proofs.Laws.{stands-true, stands-false, none-before, none-behind}
+use Rattle.root_find_many.proofs.Laid.{Putting, putting-none, putting-next, putting-all}
 use borrow.Author.Needs.{needs}
 use Rattle.root_find_many.proofs.entries.put_equals.Statement.{statement}
 use Rattle.root_find_many.proofs.entries.put_equals.Tie as tie
 use Rattle.root_find_many.proofs.entries.put_equals.Reads as reads
 use Rattle.root_find_many.proofs.entries.put_equals.Lts as lts
+use Rattle.id_list.proofs.stands.Reads as stands-reads
 use Rattle.parts.proofs.copy.Reads as copy-reads
-use Rattle.root_find_many.proofs.ids.id_at.Reads as id-at-reads
 
 abbrev Inv-loop : tie.InvT-loop
-Inv-loop entry ids id from output₀ n i₀ output i = Putting ids entry id from i output₀ output
+Inv-loop entry ids id from output₀ i₀ output i = Putting ids entry id from i output₀ output
 
 abbrev μ-loop : tie.MeasureT-loop
-μ-loop entry ids id from output₀ n i₀ output i = n - i
+μ-loop entry ids id from output₀ i₀ output i = idCount ids - i
+
+-- the id at hand is the sought one
+here : (c : tie.Then1 Inv-loop μ-loop)
+    → let a = c .before .before .before .before .before .args in
+    let i = c .before .before .loop .i in
+    (i < idCount (a .ids .now)) × (idAt (a .ids .now) i ≡ a .id)
+here c =
+    let a = c .before .before .before .before .before .args in
+    stands-true (a .ids .now) (c .before .before .loop .i) (a .id) (sym (c .before .stands .ensures) ∙ c .if1 .taken)
 
 loop-holds : tie.Need-loop-holds Inv-loop μ-loop
 loop-holds c =
     let a = c .before .before .args in
-    putting-none (a .ids .now) (a .entry .now) (a .id) (a .from) (a .output .now) (c .before .before .pre .1 .0)
+    let p = c .before .before .pre in
+    putting-none (a .ids .now) (a .entry .now) (a .id) (a .from) (a .output .now) (none-before (a .ids .now) (p .0) (a .id) (a .from) (p .1 .0))
 
-id-at-requires : tie.Need-id-at-requires Inv-loop μ-loop
-id-at-requires c κs = search needs
-
-same-length : tie.Need-same-length Inv-loop μ-loop
-same-length c = search needs
-
-returns : tie.Need-returns Inv-loop μ-loop
-returns c =
-    let start = c .before .before .before .before .before .before in
-    let l = c .before .before .before .loop in
-    let none = none-behind (start .args .ids .now) (start .pre .0) (start .args .id) (start .args .from) (start .pre .1 .0) (l .i) (l .inv .forward)
-    (c .before .before .loop-test .taken) (λ e. c .if1 .taken (c .before .id-at .ensures ∙ e)) in
-    (l .inv .kept, record { held = putting-all (l .inv) none })
+stands-requires : tie.Need-stands-requires Inv-loop μ-loop
+stands-requires c κs = search needs
 
 mul-copy : tie.Need-mul-copy Inv-loop μ-loop
-mul-copy c = search needs
+mul-copy c =
+    let start = c .before .before .before .before .before .before .before in
+    omega (arith, here (c .before .before) .0, start .pre .1 .1 .room, start .good)
 
 copy-requires : tie.Need-copy-requires Inv-loop μ-loop
 copy-requires c κs = search needs
 
 add-i : tie.Need-add-i Inv-loop μ-loop
-add-i c = search needs
+add-i c = omega (arith, here (c .before .before .before .before .before) .0)
 
 loop-less : tie.Need-loop-less Inv-loop μ-loop
-loop-less c = search needs
+loop-less c = omega (arith, here (c .before .before .before .before .before) .0)
 
 loop-again : tie.Need-loop-again Inv-loop μ-loop
 loop-again c =
-    let other = c .before .before .before .before .before in
-    let l = other .before .before .before .loop in
-    let start = other .before .before .before .before .before .before in
+    let then1 = c .before .before .before .before .before in
+    let start = then1 .before .before .before .before .before in
     let long : length (start .args .entry .now) ≡ 20 = search needs in
-    let same = sym (other .before .id-at .ensures) ∙ other .if1 .left in
-    rw (c .before .before .copy .ensures) (putting-next (l .inv) (start .pre .1 .1) long (other .before .before .loop-test .taken) same)
+    let h = here then1 in
+    rw (c .before .before .copy .ensures) (putting-next (then1 .before .before .loop .inv) (start .pre .1 .1) long (h .0) (h .1))
 
-same-length-2 : tie.Need-same-length-2 Inv-loop μ-loop
-same-length-2 c = search needs
+same-length : tie.Need-same-length Inv-loop μ-loop
+same-length c = c .before .before .loop .inv .kept .size
 
-returns-2 : tie.Need-returns-2 Inv-loop μ-loop
-returns-2 c =
-    let l = c .before .loop in
-    (l .inv .kept, record { held = putting-all (l .inv) (λ j h k e. omega (arith, c .loop-test .left)) })
+returns : tie.Need-returns Inv-loop μ-loop
+returns c =
+    let start = c .before .before .before .before .before in
+    let a = start .args in
+    let p = start .pre in
+    let l = c .before .before .loop in
+    let other = stands-false (a .ids .now) (l .i) (a .id) (sym (c .before .stands .ensures) ∙ c .if1 .left) in (
+      l .inv .kept,
+      record {
+        held = putting-all (l .inv)
+            (λ j h k. none-behind (a .ids .now) (p .0) (a .id) (a .from) (p .1 .0) (l .i) (l .inv .forward) (omega arith) (other (omega arith)) j h k);
+      },
+    )
 
 pub put-equals-spec : {M : Type 1} → statement M
 put-equals-spec =
@@ -73,13 +84,11 @@ put-equals-spec =
     Inv-loop
     μ-loop
     loop-holds
-    id-at-requires
-    same-length
-    returns
+    stands-requires
     mul-copy
     copy-requires
     add-i
     loop-less
     loop-again
-    same-length-2
-    returns-2)
+    same-length
+    returns)

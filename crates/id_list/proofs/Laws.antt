@@ -1,20 +1,21 @@
--- Laws of a list of ids that rises, and of the search in it.
+-- Laws of a list of ids, of the search in it, and of what a place tells.
 use mathlib.Core.Path.{_≡_, refl, sym, ap, ap₂, _∙_, subst}
-use mathlib.Core.Bool.{not}
+use mathlib.Core.Bool.{true, false, not, _&&_, and-eq-true-iff}
 use mathlib.Core.List.{List, [], _∷_}
 use Prim.Native.Nat.{ℕ, zero, suc, _+_, _-_, _*_, _%_, _≤_, _<_}
 use native.Mathlib.Nat.{le-trans, add-zero, lt-of-le-of-lt}
 use native.Mathlib.Omega.{arith}
-use lib.Dec.{ltb}
+use lib.Dec.{ltb, eqb}
 use lib.ListN.{length}
-use borrow.Author.Tests.{eq-eqb, ne-eqb, lt-ltb, le-ltb, ltb-false}
+use borrow.Author.Tests.{eq-eqb, ne-eqb, eqb-true, eqb-false, lt-ltb, le-ltb, ltb-true, ltb-false}
 use Rattle.parts.specs.Part.{byteAt}
+use Rattle.parts.proofs.Laws.{by-test}
 use Rattle.field.specs.Number.{bigAt}
 use Rattle.refusal.specs.Check.{silent, refused, firstFrom}
 use Rattle.refusal.specs.Number.{list-length, list-falls}
 use Rattle.refusal.proofs.Laws.{said, quiet, first-said, first-quiet, silent-test, first-right, from-each}
-use Rattle.root_find_many.specs.Many.{idCount, idAt, fallCheck, idsCheck}
-use Rattle.root_find_many.specs.Ids.{Rising, Between}
+use Rattle.id_list.specs.Ids.{idCount, idAt, fallCheck, idsCheck}
+use Rattle.id_list.specs.Place.{standsAt, Between, Placed, Rising}
 
 -- an id is read from its four bytes
 pub id-is : (ids : List ℕ) (i at r : ℕ) → at ≡ 4 * i
@@ -82,28 +83,24 @@ module _ (ids : List ℕ) (id : ℕ) where
   between-all = record {
     order = omega arith;
     within = omega arith;
-    before = λ i h. absurd (omega arith);
+    before = λ h. absurd (omega arith);
     stops = λ h. absurd (omega arith);
   }
 
-  -- the ids up to one that is below are below
-  pub below-upto : Rising ids → (m i : ℕ) → m < idCount ids → idAt ids m < id → i ≤ m → idAt ids i < id
-  below-upto r m i l b h = lt-of-le-of-lt (r .rise i m h l) b
-
-  pub between-from : Rising ids → (m : ℕ) → m < idCount ids → idAt ids m < id → Between ids id (m + 1) (idCount ids)
-  between-from r m l b = record {
-    order = omega arith;
+  pub between-from : (low : ℕ) → low ≤ idCount ids → idAt ids (low - 1) < id → Between ids id low (idCount ids)
+  between-from low l below = record {
+    order = l;
     within = omega arith;
-    before = λ i h. below-upto r m i l b (omega arith);
+    before = λ h. below;
     stops = λ h. absurd (omega arith);
   }
 
   module _ {low high : ℕ} (b : Between ids id low high) (m : ℕ) (h : m < high) where
-    pub between-after : Rising ids → idAt ids m < id → Between ids id (m + 1) high
-    between-after r below = record {
+    pub between-after : idAt ids m < id → Between ids id (m + 1) high
+    between-after below = record {
       order = omega arith;
       within = b .within;
-      before = λ i l. below-upto r m i (omega (arith, b .within)) below (omega arith);
+      before = λ l. let back : m + 1 - 1 ≡ m = omega arith in subst (λ k. idAt ids k < id) (sym back) below;
       stops = b .stops;
     }
 
@@ -114,3 +111,54 @@ module _ (ids : List ℕ) (id : ℕ) where
       before = b .before;
       stops = λ k. not-below;
     }
+
+  -- where the ends meet, that is the place
+  pub between-met : {low high : ℕ} → Between ids id low high → high ≤ low → Placed ids id low
+  between-met {low} {high} b h =
+      let e : high ≡ low = omega (arith, b .order) in
+      subst (Between ids id low) e b
+
+-- ---- what a place tells of ids that rise
+
+module _ (ids : List ℕ) (rising : Rising ids) (id place : ℕ) (b : Placed ids id place) where
+  pub placed-before : (j : ℕ) → j < place → idAt ids j < id
+  placed-before j h =
+      lt-of-le-of-lt (rising .rise j (place - 1) (omega arith) (omega (arith, b .within))) (b .before (omega arith))
+
+  pub none-before : (j : ℕ) → j < place → idAt ids j ≡ id → ⊥
+  none-before j h e = omega (arith, placed-before j h)
+
+  -- behind an id from the place on that is another, all are
+  pub none-behind : (i : ℕ) → place ≤ i → i < idCount ids → (idAt ids i ≡ id → ⊥) → (j : ℕ) → i ≤ j → j < idCount ids → idAt ids j ≡ id → ⊥
+  none-behind i p l other j h k e =
+      omega (arith, rising .rise i j h k, rising .rise place i p l, b .stops (omega arith), other)
+
+-- ---- whether an id stands at a place
+
+module _ (ids : List ℕ) (i id : ℕ) where
+  pub stands-past : idCount ids ≤ i → false ≡ standsAt ids i id
+  unfolding standsAt
+  stands-past h = sym (ap (λ t. t && eqb (idAt ids i) id) (le-ltb i (idCount ids) h))
+
+  pub stands-there : (x : ℕ) → i < idCount ids → x ≡ idAt ids i → eqb x id ≡ standsAt ids i id
+  unfolding standsAt
+  stands-there x h e = ap (λ y. eqb y id) e ∙ sym (ap (λ t. t && eqb (idAt ids i) id) (lt-ltb i (idCount ids) h))
+
+  pub stands-true : standsAt ids i id ≡ true → (i < idCount ids) × (idAt ids i ≡ id)
+  unfolding standsAt
+  stands-true t =
+      let both = and-eq-true-iff (ltb i (idCount ids)) (eqb (idAt ids i) id) .0 t in
+      (ltb-true i (idCount ids) (both .0), eqb-true (idAt ids i) id (both .1))
+
+  pub stands-false : standsAt ids i id ≡ false → i < idCount ids → idAt ids i ≡ id → ⊥
+  unfolding standsAt
+  stands-false f h = eqb-false (idAt ids i) id (sym (ap (λ t. t && eqb (idAt ids i) id) (lt-ltb i (idCount ids) h)) ∙ f)
+
+-- an id that does not stand at its place stands nowhere
+pub none-stands : (ids : List ℕ) → Rising ids → (id place : ℕ) → Placed ids id place → standsAt ids place id ≡ false
+    → (j : ℕ) → j < idCount ids → idAt ids j ≡ id → ⊥
+none-stands ids rising id place b f j h =
+    by-test (ltb j place)
+    (λ t. none-before ids rising id place b j (ltb-true j place t))
+    (λ t. let behind = ltb-false j place t in
+    none-behind ids rising id place b place (omega arith) (omega arith) (stands-false ids place id f (omega arith)) j behind h)

@@ -1,15 +1,15 @@
--- `root_find_many::ids::ahead`: the place stays from the low end on.
+-- `id_list::ahead`: the place stays from the low end on.
 use Prim.Native.Nat.{_+_, _-_, _*_, _≤_}
 use native.Mathlib.Omega.{arith}
-use Rattle.root_find_many.specs.Ids.{Between}
-use Rattle.root_find_many.proofs.Listed.{between-after, between-before}
+use Rattle.id_list.specs.Place.{Between}
+use Rattle.id_list.proofs.Laws.{between-after, between-before}
 use borrow.Author.Needs.{needs}
-use Rattle.root_find_many.proofs.ids.ahead.Statement.{statement}
-use Rattle.root_find_many.proofs.ids.ahead.Tie as tie
-use Rattle.root_find_many.proofs.ids.ahead.Reads as reads
-use Rattle.root_find_many.proofs.ids.ahead.Lts as lts
-use Rattle.root_find_many.proofs.ids.halve.Reads as halve-reads
-use Rattle.root_find_many.proofs.ids.id_at.Reads as id-at-reads
+use Rattle.id_list.proofs.ahead.Statement.{statement}
+use Rattle.id_list.proofs.ahead.Tie as tie
+use Rattle.id_list.proofs.ahead.Reads as reads
+use Rattle.id_list.proofs.ahead.Lts as lts
+use Rattle.id_list.proofs.halve.Reads as halve-reads
+use Rattle.id_list.proofs.id_at.Reads as id-at-reads
 
 abbrev Inv-loop : tie.InvT-loop
 Inv-loop ids id from n low₀ step₀ low step = (step ≤ 2 * n) × Between ids id low n
@@ -32,8 +32,7 @@ id-at-requires c κs = search needs
 halve-requires : tie.Need-halve-requires Inv-loop μ-loop
 halve-requires c κs =
     let l = c .before .before .before .loop in
-    let start = c .before .before .before .before .before in
-    (start .pre .0, between-before _ _ (l .inv .1) (l .low + l .step) (omega arith) (omega arith) (rw (← c .before .id-at .ensures) (c .if1 .taken)))
+    between-before _ _ (l .inv .1) (l .low + l .step) (omega arith) (omega arith) (rw (← c .before .id-at .ensures) (c .if1 .taken))
 
 returns : tie.Need-returns Inv-loop μ-loop
 returns c = search needs
@@ -53,8 +52,7 @@ loop-less c = search needs
 loop-again : tie.Need-loop-again Inv-loop μ-loop
 loop-again c =
     let l = c .before .before .before .loop in
-    let start = c .before .before .before .before .before in
-    (omega arith, between-after _ _ (l .inv .1) (l .low + l .step) (omega arith) (start .pre .0) (rw (← c .before .id-at .ensures) (c .if1 .left)))
+    (omega arith, between-after _ _ (l .inv .1) (l .low + l .step) (omega arith) (rw (← c .before .id-at .ensures) (c .if1 .left)))
 
 halve-requires-2 : tie.Need-halve-requires-2 Inv-loop μ-loop
 halve-requires-2 c κs = search needs

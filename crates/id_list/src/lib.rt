@@ -1,5 +1,4 @@
 // A list of ids: big-endian numbers of four bytes that rise, equal neighbours allowed.
-use crate::ID_SIZE;
 use refusal::LIST_FALLS;
 use refusal::LIST_LENGTH;
 use refusal::Verdict;
@@ -9,8 +8,11 @@ ghost use mathlib.Core.List.{[], _∷_};
 ghost use Prim.Native.Nat.{_<_};
 ghost use Rattle.field.specs.Number.{bigAt};
 ghost use Rattle.refusal.specs.Check.{checkOf};
-ghost use Rattle.root_find_many.specs.Many as spec;
-ghost use Rattle.root_find_many.specs.Ids.{Rising, Between};
+ghost use Rattle.id_list.specs.Ids as spec;
+ghost use Rattle.id_list.specs.Place.{Between, Placed, standsAt};
+
+// The bytes of an id.
+pub const ID_SIZE: usize = 4;
 
 // The number of four big-endian bytes.
 fn number_of(a: u8, b: u8, c: u8, d: u8) -> u32
@@ -20,7 +22,7 @@ fn number_of(a: u8, b: u8, c: u8, d: u8) -> u32
 }
 
 // Id i.
-pub(crate) fn id_at(ids: &[u8], i: usize) -> u32
+fn id_at(ids: &[u8], i: usize) -> u32
     requires { ⌜ i < spec.idCount (now ids) ⌝ }
     ensures { λ r. ⌜ r ≡ spec.idAt (now (ids .entry)) i ⌝ }
 {
@@ -29,7 +31,7 @@ pub(crate) fn id_at(ids: &[u8], i: usize) -> u32
 }
 
 // Refusals 12 and 161.
-pub(crate) fn check_ids(ids: &[u8]) -> Verdict
+pub fn check(ids: &[u8]) -> Verdict
     ensures { λ r. ⌜ checkOf r ≡ spec.idsCheck (now (ids .entry)) ⌝ }
 {
     if ids.len() % ID_SIZE != 0 {
@@ -46,11 +48,10 @@ pub(crate) fn check_ids(ids: &[u8]) -> Verdict
     Verdict::Passed
 }
 
-// The first id that is not below the sought one, by halving.
+// Where an id stands or would stand, by halving.
 fn halve(ids: &[u8], id: u32, from: usize, to: usize) -> usize
-    requires { ⌜ Rising (now ids) ⌝ }
     requires { ⌜ Between (now ids) id from to ⌝ }
-    ensures { λ r. ⌜ Between (now (ids .entry)) id r r ⌝ }
+    ensures { λ r. ⌜ Placed (now (ids .entry)) id r ⌝ }
 {
     let mut low = from;
     let mut high = to;
@@ -67,9 +68,8 @@ fn halve(ids: &[u8], id: u32, from: usize, to: usize) -> usize
 
 // The same from an id on, in steps that double: near ids are found in few comparisons.
 fn ahead(ids: &[u8], id: u32, from: usize) -> usize
-    requires { ⌜ Rising (now ids) ⌝ }
     requires { ⌜ Between (now ids) id from (spec.idCount (now ids)) ⌝ }
-    ensures { λ r. ⌜ Between (now (ids .entry)) id r r ⌝ }
+    ensures { λ r. ⌜ Placed (now (ids .entry)) id r ⌝ }
 {
     let n = ids.len() / ID_SIZE;
     let mut low = from;
@@ -85,10 +85,10 @@ fn ahead(ids: &[u8], id: u32, from: usize) -> usize
     halve(ids, id, low, n)
 }
 
-// The first id that is not below the sought one, or the count. A good guess makes the search short, and any guess does.
-pub(crate) fn place(ids: &[u8], id: u32, guess: usize) -> usize
-    requires { ⌜ Rising (now ids) ⌝ }
-    ensures { λ r. ⌜ Between (now (ids .entry)) id r r ⌝ }
+// The first id of a list that rises that is not below the sought one, or the count. A good guess makes the search short, and any
+// guess does.
+pub fn place(ids: &[u8], id: u32, guess: usize) -> usize
+    ensures { λ r. ⌜ Placed (now (ids .entry)) id r ⌝ }
 {
     if 0 < guess {
         if guess <= ids.len() / ID_SIZE {
@@ -98,4 +98,14 @@ pub(crate) fn place(ids: &[u8], id: u32, guess: usize) -> usize
         }
     }
     ahead(ids, id, 0)
+}
+
+// Whether id i is there and is this one.
+pub fn stands(ids: &[u8], i: usize, id: u32) -> bool
+    ensures { λ r. ⌜ r ≡ standsAt (now (ids .entry)) i id ⌝ }
+{
+    if ids.len() / ID_SIZE <= i {
+        return false;
+    }
+    id_at(ids, i) == id
 }

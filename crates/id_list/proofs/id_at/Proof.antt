@@ -1,12 +1,12 @@
--- `root_find_many::ids::id_at`: the four bytes of the id.
+-- `id_list::id_at`: the four bytes of the id.
 use mathlib.Core.Path.{refl}
-use Rattle.root_find_many.proofs.Listed.{id-is}
+use Rattle.id_list.proofs.Laws.{id-is}
 use borrow.Author.Needs.{needs}
-use Rattle.root_find_many.proofs.ids.id_at.Statement.{statement}
-use Rattle.root_find_many.proofs.ids.id_at.Tie as tie
-use Rattle.root_find_many.proofs.ids.id_at.Reads as reads
-use Rattle.root_find_many.proofs.ids.id_at.Lts as lts
-use Rattle.root_find_many.proofs.ids.number_of.Reads as number-of-reads
+use Rattle.id_list.proofs.id_at.Statement.{statement}
+use Rattle.id_list.proofs.id_at.Tie as tie
+use Rattle.id_list.proofs.id_at.Reads as reads
+use Rattle.id_list.proofs.id_at.Lts as lts
+use Rattle.id_list.proofs.number_of.Reads as number-of-reads
 
 mul-at : tie.Need-mul-at
 mul-at c = search needs

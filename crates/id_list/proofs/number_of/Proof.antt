@@ -1,11 +1,11 @@
--- `root_find_many::ids::number_of`: the highest byte first.
+-- `id_list::number_of`: the highest byte first.
 use native.Mathlib.Omega.{arith}
 use Rattle.field.specs.Number.{bigAt}
 use borrow.Author.Needs.{needs}
-use Rattle.root_find_many.proofs.ids.number_of.Statement.{statement}
-use Rattle.root_find_many.proofs.ids.number_of.Tie as tie
-use Rattle.root_find_many.proofs.ids.number_of.Reads as reads
-use Rattle.root_find_many.proofs.ids.number_of.Lts as lts
+use Rattle.id_list.proofs.number_of.Statement.{statement}
+use Rattle.id_list.proofs.number_of.Tie as tie
+use Rattle.id_list.proofs.number_of.Reads as reads
+use Rattle.id_list.proofs.number_of.Lts as lts
 
 mul-result : tie.Need-mul-result
 mul-result c = search needs

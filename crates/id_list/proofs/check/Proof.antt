@@ -1,18 +1,18 @@
--- `root_find_many::ids::check_ids`: 12, then 161 for the ids that are left.
+-- `id_list::check`: 12, then 161 for the ids that are left.
 use mathlib.Core.Path.{_≡_, refl, sym, ap, ap₂, _∙_}
 use Prim.Native.Nat.{_-_, _≤_}
 use native.Mathlib.Omega.{arith}
 use Rattle.refusal.specs.Check.{firstFrom, checkOf}
 use Rattle.refusal.proofs.Laws.{upto-said, upto-quiet, upto-end}
-use Rattle.root_find_many.specs.Many.{idCount, fallCheck}
-use Rattle.root_find_many.proofs.Listed.{list-cut, list-whole, falls, holds}
+use Rattle.id_list.specs.Ids.{idCount, fallCheck}
+use Rattle.id_list.proofs.Laws.{list-cut, list-whole, falls, holds}
 use borrow.Author.Needs.{needs}
-use Rattle.root_find_many.proofs.ids.check_ids.Statement.{statement}
-use Rattle.root_find_many.proofs.ids.check_ids.Tie as tie
-use Rattle.root_find_many.proofs.ids.check_ids.Reads as reads
-use Rattle.root_find_many.proofs.ids.check_ids.Lts as lts
+use Rattle.id_list.proofs.check.Statement.{statement}
+use Rattle.id_list.proofs.check.Tie as tie
+use Rattle.id_list.proofs.check.Reads as reads
+use Rattle.id_list.proofs.check.Lts as lts
 use Rattle.refusal.proofs.refuse.Reads as refuse-reads
-use Rattle.root_find_many.proofs.ids.id_at.Reads as id-at-reads
+use Rattle.id_list.proofs.id_at.Reads as id-at-reads
 
 abbrev Inv-loop : tie.InvT-loop
 Inv-loop ids n i₀ i = (1 ≤ i) × (firstFrom (fallCheck ids) 1 (n - 1) ≡ firstFrom (fallCheck ids) i (n - i))
@@ -71,8 +71,8 @@ returns-3 c =
     let l = c .before .loop in
     sym (list-whole ids (c .before .before .if1 .left) ∙ l .inv .1 ∙ upto-end (fallCheck ids) (l .i) (idCount ids) (c .loop-test .left))
 
-pub check-ids-spec : {M : Type 1} → statement M
-check-ids-spec =
+pub check-spec : {M : Type 1} → statement M
+check-spec =
     tie.close
     (tie.spec
     Inv-loop

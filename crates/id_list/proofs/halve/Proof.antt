@@ -1,16 +1,14 @@
--- `root_find_many::ids::halve`: the place stays between the two ends.
-use mathlib.Core.Path.{_≡_, subst}
-use mathlib.Core.List.{List}
-use Prim.Native.Nat.{ℕ, _+_, _-_, _/_, _≤_}
+-- `id_list::halve`: the place stays between the two ends.
+use Prim.Native.Nat.{_+_, _-_, _/_}
 use native.Mathlib.Omega.{arith}
-use Rattle.root_find_many.specs.Ids.{Rising, Between}
-use Rattle.root_find_many.proofs.Listed.{between-after, between-before}
+use Rattle.id_list.specs.Place.{Between}
+use Rattle.id_list.proofs.Laws.{between-after, between-before, between-met}
 use borrow.Author.Needs.{needs}
-use Rattle.root_find_many.proofs.ids.halve.Statement.{statement}
-use Rattle.root_find_many.proofs.ids.halve.Tie as tie
-use Rattle.root_find_many.proofs.ids.halve.Reads as reads
-use Rattle.root_find_many.proofs.ids.halve.Lts as lts
-use Rattle.root_find_many.proofs.ids.id_at.Reads as id-at-reads
+use Rattle.id_list.proofs.halve.Statement.{statement}
+use Rattle.id_list.proofs.halve.Tie as tie
+use Rattle.id_list.proofs.halve.Reads as reads
+use Rattle.id_list.proofs.halve.Lts as lts
+use Rattle.id_list.proofs.id_at.Reads as id-at-reads
 
 abbrev Inv-loop : tie.InvT-loop
 Inv-loop ids id from to low₀ high₀ low high = Between ids id low high
@@ -18,14 +16,8 @@ Inv-loop ids id from to low₀ high₀ low high = Between ids id low high
 abbrev μ-loop : tie.MeasureT-loop
 μ-loop ids id from to low₀ high₀ low high = high - low
 
--- where the ends meet, that is the place
-ended : {ids : List ℕ} {id low high : ℕ} → Between ids id low high → high ≤ low → Between ids id low low
-ended {ids} {id} {low} {high} b h =
-    let e : high ≡ low = omega (arith, b .order) in
-    subst (Between ids id low) e b
-
 loop-holds : tie.Need-loop-holds Inv-loop μ-loop
-loop-holds c = c .before .pre .1
+loop-holds c = c .before .pre
 
 sub-middle : tie.Need-sub-middle Inv-loop μ-loop
 sub-middle c = search needs
@@ -45,8 +37,7 @@ loop-less c = search needs
 loop-again : tie.Need-loop-again Inv-loop μ-loop
 loop-again c =
     let l = c .before .before .before .loop in
-    let start = c .before .before .before .before .before in
-    between-after _ _ (l .inv) (l .low + (l .high - l .low) / 2) (omega arith) (start .pre .0) (rw (← c .before .id-at .ensures) (c .if1 .taken))
+    between-after _ _ (l .inv) (l .low + (l .high - l .low) / 2) (omega arith) (rw (← c .before .id-at .ensures) (c .if1 .taken))
 
 loop-less-2 : tie.Need-loop-less-2 Inv-loop μ-loop
 loop-less-2 c = search needs
@@ -57,7 +48,7 @@ loop-again-2 c =
     between-before _ _ (l .inv) (l .low + (l .high - l .low) / 2) (omega arith) (omega arith) (rw (← c .before .id-at .ensures) (c .if1 .left))
 
 returns : tie.Need-returns Inv-loop μ-loop
-returns c = ended (c .before .loop .inv) (c .loop-test .left)
+returns c = between-met _ _ (c .before .loop .inv) (c .loop-test .left)
 
 pub halve-spec : {M : Type 1} → statement M
 halve-spec =
