@@ -36,14 +36,14 @@ returns : tie.Need-returns
 unfolding firstOf partAfter
 returns c = let s = c .before .before .before .before .before .args .encoding .now in
     let o = c .before .before .before .«open» in
-    c .part .ensures ∙ sym (ap (λ k. partAfter k (take (headerOf s .encoding .«key_size») (partAt s (c .before .before .before .before .before .args .at) (c .before .before .before .before .before .args .length)))) (refused-header (opening s) (headerOf s) (o .result) (o .ensures) (c .before .enum-told .given .1)))
+    c .part .ensures .0 ∙ sym (ap (λ k. partAfter k (take (headerOf s .encoding .«key_size») (partAt s (c .before .before .before .before .before .args .at) (c .before .before .before .before .before .args .length)))) (refused-header (opening s) (headerOf s) (o .result) (o .ensures) (c .before .enum-told .given .1)))
 
 returns-2 : tie.Need-returns-2
 unfolding firstOf partAfter
 returns-2 c = let s = c .before .before .before .before .before .before .before .before .args .encoding .now in
     let o = c .before .before .before .before .before .before .«open» in
     let i = passed-header (opening s) _ (headerOf s) (o .result) (o .ensures) (c .before .before .before .before .h .given .1) in
-    c .part3 .ensures ∙ ap₂ (λ (h : Header) l. take (h .encoding .«key_size») l) (i .1) (c .before .before .part2 .ensures)
+    c .part3 .ensures .0 ∙ ap₂ (λ (h : Header) l. take (h .encoding .«key_size») l) (i .1) (c .before .before .part2 .ensures .0)
     ∙ sym (ap (λ k. partAfter k (take (headerOf s .encoding .«key_size») (partAt s (c .before .before .before .before .before .before .before .before .args .at) (c .before .before .before .before .before .before .before .before .args .length)))) (i .0))
 
 pub first-key-spec : {M : Type 1} → statement M

@@ -53,7 +53,7 @@ unfolding entriesBy
 add-to c =
     let a = c .before .before .before .before .before .before .before .before .before .before .before .before .args in
     let l = c .before .before .before .before .before .before .before .before .loop in
-    let page = c .before .before .before .before .part .ensures ∙ ap₂ (partAt (a .index .now)) (c .before .before .before .before .before .page-at .ensures) (ap₂ (λ m n. m * n) (c .before .before .before .before .before .before .on-page .ensures) (c .before .before .before .before .before .before .before .before .before .entry-size .ensures .0)) in
+    let page = c .before .before .before .before .part .ensures .0 ∙ ap₂ (partAt (a .index .now)) (c .before .before .before .before .before .page-at .ensures) (ap₂ (λ m n. m * n) (c .before .before .before .before .before .before .on-page .ensures) (c .before .before .before .before .before .before .before .before .before .entry-size .ensures .0)) in
     let turn = part-turn (entriesOf (a .index .now) (a .l)) (l .p) (a .l .pages) _ (a .output .now) _ _ (c .before .before .before .before .before .before .before .loop-test .taken) (c .before .before .before .before .before .before .before .before .before .before .before .before .pre) page (l .inv .1) (l .inv .2) in
     omega (arith, turn .0, parts-room (entriesOf (a .index .now) (a .l)) (l .p + 1) (a .l .pages) (omega arith), c .before .before .before .before .before .before .before .before .before .before .before .before .pre, c .before .before .before .before .before .before .before .before .before .before .before .before .good)
 
@@ -68,7 +68,7 @@ unfolding entriesBy
 loop-again c =
     let a = c .before .before .before .before .before .before .before .before .before .before .before .before .args in
     let l = c .before .before .before .before .before .before .before .before .loop in
-    let page = c .before .before .before .before .part .ensures ∙ ap₂ (partAt (a .index .now)) (c .before .before .before .before .before .page-at .ensures) (ap₂ (λ m n. m * n) (c .before .before .before .before .before .before .on-page .ensures) (c .before .before .before .before .before .before .before .before .before .entry-size .ensures .0)) in
+    let page = c .before .before .before .before .part .ensures .0 ∙ ap₂ (partAt (a .index .now)) (c .before .before .before .before .before .page-at .ensures) (ap₂ (λ m n. m * n) (c .before .before .before .before .before .before .on-page .ensures) (c .before .before .before .before .before .before .before .before .before .entry-size .ensures .0)) in
     let turn = part-turn (entriesOf (a .index .now) (a .l)) (l .p) (a .l .pages) _ (a .output .now) _ _ (c .before .before .before .before .before .before .before .loop-test .taken) (c .before .before .before .before .before .before .before .before .before .before .before .before .pre) page (l .inv .1) (l .inv .2) in
     (search needs, turn .0, c .before .before .copy .ensures ∙ turn .1)
 

@@ -17,7 +17,7 @@ part-requires c κs = search needs
 
 returns : tie.Need-returns
 unfolding keyed
-returns c = rw (← c .before .before .before .tabled .ensures, c .before .before .if1 .taken, c .part .ensures, c .before .length .ensures)
+returns c = rw (← c .before .before .before .tabled .ensures, c .before .before .if1 .taken, c .part .ensures .0, c .before .length .ensures)
 
 returns-2 : tie.Need-returns-2
 unfolding keyed

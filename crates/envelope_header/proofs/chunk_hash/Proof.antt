@@ -17,7 +17,7 @@ part-requires c κs = search needs
 
 returns : tie.Need-returns
 unfolding chunkHash
-returns c = rw (c .part .ensures, c .before .row-at .ensures)
+returns c = rw (c .part .ensures .0, c .before .row-at .ensures)
 
 pub chunk-hash-spec : {M : Type 1} → statement M
 chunk-hash-spec = tie.close (tie.spec row-at-requires add-part part-requires returns)

@@ -18,7 +18,7 @@ copy-requires c κs = search needs
 returns : tie.Need-returns
 returns c i l =
     let a = c .before .before .before .before .before .args in
-    rw (c .before .copy .ensures, c .before .before .before .part .ensures)
+    rw (c .before .copy .ensures, c .before .before .before .part .ensures .0)
     (overlay-zeros 8 (partAt (a .s .now) (a .at) 8) i l ∙ partAt-byte (a .s .now) (a .at) 8 i l)
 
 pub padded-spec : {M : Type 1} → statement M

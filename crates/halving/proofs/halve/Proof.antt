@@ -49,7 +49,7 @@ loop-less c = search needs
 loop-again : tie.Need-loop-again Inv-loop μ-loop
 unfolding keyBelow
 loop-again c =
-    reached-after (c .before .before .before .before .loop .inv) (search needs) (sym (rw (c .before .before .part .ensures) at (c .before .rises .ensures)) ∙ c .if1 .taken)
+    reached-after (c .before .before .before .before .loop .inv) (search needs) (sym (rw (c .before .before .part .ensures .0) at (c .before .rises .ensures)) ∙ c .if1 .taken)
 
 loop-less-2 : tie.Need-loop-less-2 Inv-loop μ-loop
 loop-less-2 c = search needs
@@ -57,7 +57,7 @@ loop-less-2 c = search needs
 loop-again-2 : tie.Need-loop-again-2 Inv-loop μ-loop
 unfolding keyBelow
 loop-again-2 c =
-    reached-before (c .before .before .before .before .loop .inv) (search needs) (sym (rw (c .before .before .part .ensures) at (c .before .rises .ensures)) ∙ c .if1 .left)
+    reached-before (c .before .before .before .before .loop .inv) (search needs) (sym (rw (c .before .before .part .ensures .0) at (c .before .rises .ensures)) ∙ c .if1 .left)
 
 returns : tie.Need-returns Inv-loop μ-loop
 returns c =

@@ -46,7 +46,7 @@ copy-requires c κs = search needs
 
 add-to : tie.Need-add-to Inv-loop μ-loop
 add-to c =
-    let short : length (c .before .before .before .before .part .result .now) ≤ 255 = omega (arith, ap length (c .before .before .before .before .part .ensures), partAt-length (c .before .before .before .before .before .before .before .before .before .before .before .before .before .args .list .now) (c .before .before .before .before .before .list-at .result) (c .before .before .before .before .before .before .before .before .before .before .before .before .before .args .l .«key_length»)) in
+    let short : length (c .before .before .before .before .part .result .now) ≤ 255 = omega (arith, ap length (c .before .before .before .before .part .ensures .0), partAt-length (c .before .before .before .before .before .before .before .before .before .before .before .before .before .args .list .now) (c .before .before .before .before .before .list-at .result) (c .before .before .before .before .before .before .before .before .before .before .before .before .before .args .l .«key_length»)) in
     omega (arith, short)
 
 add-p : tie.Need-add-p Inv-loop μ-loop
@@ -60,8 +60,8 @@ unfolding lastKeyIn
 loop-again c =
     let a = c .before .before .before .before .before .before .before .before .before .before .before .before .before .args in
     let l = c .before .before .before .before .before .before .before .before .loop in
-    let short : length (c .before .before .before .before .part .result .now) ≤ 255 = omega (arith, ap length (c .before .before .before .before .part .ensures), partAt-length (a .list .now) (c .before .before .before .before .before .list-at .result) (a .l .«key_length»)) in
-    let key = c .before .before .before .before .part .ensures ∙ ap (λ n. partAt (a .list .now) n (a .l .«key_length»)) (c .before .before .before .before .before .list-at .ensures ∙ ap (listAt (a .l) (l .p)) (c .before .before .before .before .before .before .last-slot .ensures)) in
+    let short : length (c .before .before .before .before .part .result .now) ≤ 255 = omega (arith, ap length (c .before .before .before .before .part .ensures .0), partAt-length (a .list .now) (c .before .before .before .before .before .list-at .result) (a .l .«key_length»)) in
+    let key = c .before .before .before .before .part .ensures .0 ∙ ap (λ n. partAt (a .list .now) n (a .l .«key_length»)) (c .before .before .before .before .before .list-at .ensures ∙ ap (listAt (a .l) (l .p)) (c .before .before .before .before .before .before .last-slot .ensures)) in
     let turn = part-laid (lastKeyIn (a .list .now) (a .l)) (l .p) _ (a .output .now) _ (c .before .before .before .before .before .before .before .before .before .last-key-at .result) _ key (l .inv .3) (l .inv .4) in
     (omega arith, omega arith, omega (arith, short), turn .0, c .before .before .copy .ensures ∙ turn .1)
 

@@ -38,7 +38,7 @@ copy-requires c κs = search needs
 
 add-to : tie.Need-add-to Inv-loop μ-loop
 add-to c =
-    let short : length (c .before .before .before .before .part .result .now) ≤ pageSize = omega (arith, ap length (c .before .before .before .before .part .ensures), partAt-length (c .before .before .before .before .before .before .before .before .before .before .before .args .list .now) (c .before .before .before .before .before .list-at .result) (c .before .before .before .before .before .before .entries-size .result)) in
+    let short : length (c .before .before .before .before .part .result .now) ≤ pageSize = omega (arith, ap length (c .before .before .before .before .part .ensures .0), partAt-length (c .before .before .before .before .before .before .before .before .before .before .before .args .list .now) (c .before .before .before .before .before .list-at .result) (c .before .before .before .before .before .before .entries-size .result)) in
     omega (arith, short)
 
 sub-rest : tie.Need-sub-rest Inv-loop μ-loop
@@ -55,7 +55,7 @@ copy-requires-2 c κs = search needs
 
 add-to-2 : tie.Need-add-to-2 Inv-loop μ-loop
 add-to-2 c =
-    let short : length (c .before .before .before .before .before .before .before .before .before .before .part .result .now) ≤ pageSize = omega (arith, ap length (c .before .before .before .before .before .before .before .before .before .before .part .ensures), partAt-length (c .before .before .before .before .before .before .before .before .before .before .before .before .before .before .before .before .before .args .list .now) (c .before .before .before .before .before .before .before .before .before .before .before .list-at .result) (c .before .before .before .before .before .before .before .before .before .before .before .before .entries-size .result)) in
+    let short : length (c .before .before .before .before .before .before .before .before .before .before .part .result .now) ≤ pageSize = omega (arith, ap length (c .before .before .before .before .before .before .before .before .before .before .part .ensures .0), partAt-length (c .before .before .before .before .before .before .before .before .before .before .before .before .before .before .before .before .before .args .list .now) (c .before .before .before .before .before .before .before .before .before .before .before .list-at .result) (c .before .before .before .before .before .before .before .before .before .before .before .before .entries-size .result)) in
     omega (arith, short)
 
 add-p : tie.Need-add-p Inv-loop μ-loop
@@ -68,9 +68,9 @@ loop-again : tie.Need-loop-again Inv-loop μ-loop
 loop-again c =
     let a = c .before .before .before .before .before .before .before .before .before .before .before .before .before .before .before .before .before .args in
     let l = c .before .before .before .before .before .before .before .before .before .before .before .before .before .before .loop in
-    let short : length (c .before .before .before .before .before .before .before .before .before .before .part .result .now) ≤ pageSize = omega (arith, ap length (c .before .before .before .before .before .before .before .before .before .before .part .ensures), partAt-length (a .list .now) (c .before .before .before .before .before .before .before .before .before .before .before .list-at .result) (c .before .before .before .before .before .before .before .before .before .before .before .before .entries-size .result)) in
-    let entries = c .before .before .before .before .before .before .before .before .before .before .part .ensures ∙ ap₂ (partAt (a .list .now)) (c .before .before .before .before .before .before .before .before .before .before .before .list-at .ensures) (c .before .before .before .before .before .before .before .before .before .before .before .before .entries-size .ensures .0) in
-    let turn = page-laid (a .list .now) (a .l) (l .p) _ _ (a .output .now) _ _ _ _ entries (ap (λ n. pageSize - n) (c .before .before .before .before .before .before .before .before .before .before .before .before .entries-size .ensures .0)) (c .before .before .before .before .part2 .ensures) (l .inv .2) (l .inv .3) (c .before .before .before .before .before .before .before .before .copy .ensures) in
+    let short : length (c .before .before .before .before .before .before .before .before .before .before .part .result .now) ≤ pageSize = omega (arith, ap length (c .before .before .before .before .before .before .before .before .before .before .part .ensures .0), partAt-length (a .list .now) (c .before .before .before .before .before .before .before .before .before .before .before .list-at .result) (c .before .before .before .before .before .before .before .before .before .before .before .before .entries-size .result)) in
+    let entries = c .before .before .before .before .before .before .before .before .before .before .part .ensures .0 ∙ ap₂ (partAt (a .list .now)) (c .before .before .before .before .before .before .before .before .before .before .before .list-at .ensures) (c .before .before .before .before .before .before .before .before .before .before .before .before .entries-size .ensures .0) in
+    let turn = page-laid (a .list .now) (a .l) (l .p) _ _ (a .output .now) _ _ _ _ entries (ap (λ n. pageSize - n) (c .before .before .before .before .before .before .before .before .before .before .before .before .entries-size .ensures .0)) (c .before .before .before .before .part2 .ensures .0) (l .inv .2) (l .inv .3) (c .before .before .before .before .before .before .before .before .copy .ensures) in
     (omega arith, omega (arith, short), turn .0, c .before .before .copy2 .ensures ∙ turn .1)
 
 same-length : tie.Need-same-length Inv-loop μ-loop

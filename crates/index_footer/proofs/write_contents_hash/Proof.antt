@@ -45,8 +45,8 @@ returns c =
     let from = c .before .before .before .before .before .before .before .before .before .before .last-key-at in
     let at = c .before .before .before .before .before .before .before .before .before .page-hash-at in
     let contents = c .before .before .before .before .before .before .before .part in
-    let short : length (contents .result .now) ≤ 2 ^ 48 = omega (arith, ap length (contents .ensures), partAt-length out (from .result) (at .result - from .result), at .ensures, footer-most (a .l) (omega (arith, c .before .before .before .before .before .before .before .before .before .before .before .before .good)) (omega (arith, c .before .before .before .before .before .before .before .before .before .before .before .before .good))) in
-    let bytes = contents .ensures ∙ ap₂ (λ i j. partAt out i (j - i)) (from .ensures) (at .ensures) in
+    let short : length (contents .result .now) ≤ 2 ^ 48 = omega (arith, ap length (contents .ensures .0), partAt-length out (from .result) (at .result - from .result), at .ensures, footer-most (a .l) (omega (arith, c .before .before .before .before .before .before .before .before .before .before .before .before .good)) (omega (arith, c .before .before .before .before .before .before .before .before .before .before .before .before .good))) in
+    let bytes = contents .ensures .0 ∙ ap₂ (λ i j. partAt out i (j - i)) (from .ensures) (at .ensures) in
     c .before .before .copy .ensures
     ∙ ap₂ (overlay out) (at .ensures) (first-eight-within (contents .result .now) _ short (c .before .before .before .before .before .before .first-eight .ensures .1) ∙ ap (λ s. take hashLength (md5 s)) bytes)
 

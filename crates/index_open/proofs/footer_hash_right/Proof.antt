@@ -48,10 +48,10 @@ unfolding footerHashCheck
 returns c =
     let f = c .before .before .before .before .before .before .before .before .before .before .before .args .footer .now in
     let h = c .before .before .before .before .before .before .before .copy .last .1 .0 in
-    let is = hashed-is f _ h (c .before .before .before .before .before .before .before .before .before .before .before .pre) (c .before .before .before .before .before .before .before .before .before .part .ensures) (c .before .before .before .before .before .before .before .copy .ensures) in
+    let is = hashed-is f _ h (c .before .before .before .before .before .before .before .before .before .before .before .pre) (c .before .before .before .before .before .before .before .before .before .part .ensures .0) (c .before .before .before .before .before .before .before .copy .ensures) in
     let short : length h ≤ pageSize = rw (c .before .before .before .before .before .before .before .copy .ensures, overlay-length) (lit≤ tt) in
     hash-told _ _ _ _ (c .equal .result) footer-hash 0 (c .equal .ensures)
-    (first-eight-is h _ short (c .before .before .before .before .first-eight .ensures .1) ∙ ap (λ m. take 8 (md5 m)) is) (c .before .part2 .ensures)
+    (first-eight-is h _ short (c .before .before .before .before .first-eight .ensures .1) ∙ ap (λ m. take 8 (md5 m)) is) (c .before .part2 .ensures .0)
 
 pub footer-hash-right-spec : {M : Type 1} → statement M
 footer-hash-right-spec =

@@ -54,8 +54,8 @@ returns : tie.Need-returns
 returns c =
     let a = c .before .before .before .before .before .before .before .before .before .before .before .before .before .before .before .before .before .before .before .before .args in
     let pre = c .before .before .before .before .before .before .before .before .before .before .before .before .before .before .before .before .before .before .before .before .pre in
-    let sizes = c .before .before .before .before .before .before .before .before .before .before .part .ensures ∙ ap (λ r. partAt r 4 4) (c .before .before .before .before .before .before .before .before .before .before .before .before .before .before .before .before .before .big-bytes .ensures) in
-    let locations = c .before .before .before .before .part2 .ensures ∙ ap (λ r. partAt r (8 - a .width) (a .width)) (c .before .before .before .before .before .before .before .before .before .before .before .before .before .before .before .before .big-bytes2 .ensures) in
+    let sizes = c .before .before .before .before .before .before .before .before .before .before .part .ensures .0 ∙ ap (λ r. partAt r 4 4) (c .before .before .before .before .before .before .before .before .before .before .before .before .before .before .before .before .before .big-bytes .ensures) in
+    let locations = c .before .before .before .before .part2 .ensures .0 ∙ ap (λ r. partAt r (8 - a .width) (a .width)) (c .before .before .before .before .before .before .before .before .before .before .before .before .before .before .before .before .big-bytes2 .ensures) in
     entry-laid (a .key .now) (a .output .now) _ _ _ _ _ (a .width) (a .size) (a .location) (omega (arith, pre .0)) (pre .2)
     (c .before .before .before .before .before .before .before .before .before .before .before .before .before .before .copy .ensures) sizes (c .before .before .before .before .before .before .before .before .copy2 .ensures) locations (c .before .before .copy3 .ensures)
 

@@ -32,7 +32,7 @@ returns : tie.Need-returns
 returns c =
     let start = c .before .before .before .before .before .before .before .before .before .before .before in
     let a = start .args in
-    rw (line-is (a .index .now) (a .l) (a .page .0) (a .slot .0) _ (c .before .before .before .before .before .before .before .before .entry-at .ensures) (start .pre) _ _ _ (c .before .before .before .before .before .before .part .ensures) (c .before .before .before .before .before .size-at .ensures) (c .before .before .before .before .location-at .ensures)) at (c .before .before .put-entry .ensures)
+    rw (line-is (a .index .now) (a .l) (a .page .0) (a .slot .0) _ (c .before .before .before .before .before .before .before .before .entry-at .ensures) (start .pre) _ _ _ (c .before .before .before .before .before .before .part .ensures .0) (c .before .before .before .before .before .size-at .ensures) (c .before .before .before .before .location-at .ensures)) at (c .before .before .put-entry .ensures)
 
 pub put-line-spec : {M : Type 1} → statement M
 put-line-spec =

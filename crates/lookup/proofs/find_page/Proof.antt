@@ -20,7 +20,7 @@ returns : tie.Need-returns
 returns c =
     let start = c .before .before .before .before .before .before in
     let a = start .args in (
-      page-halved _ _ (a .l) (start .pre) _ _ _ (c .before .before .part .ensures) (c .before .before .before .last-key-at .ensures) (c .halve .ensures .0),
+      page-halved _ _ (a .l) (start .pre) _ _ _ (c .before .before .part .ensures .0) (c .before .before .before .last-key-at .ensures) (c .halve .ensures .0),
       c .halve .ensures .1,
     )
 

@@ -33,7 +33,7 @@ returns : tie.Need-returns
 returns c =
     let start = c .before .before .before .before .before .before .before in
     let a = start .args in (
-      slot-halved _ _ (a .l) (start .pre) _ (a .page .0) _ _ _ _ (c .before .before .before .part .ensures) (c .before .before .before .before .entry-at .ensures) (c .before .entry-size .ensures .0) (c .before .before .on-page .ensures) (c .halve .ensures .0),
+      slot-halved _ _ (a .l) (start .pre) _ (a .page .0) _ _ _ _ (c .before .before .before .part .ensures .0) (c .before .before .before .before .entry-at .ensures) (c .before .entry-size .ensures .0) (c .before .before .on-page .ensures) (c .halve .ensures .0),
       c .halve .ensures .1,
     )
 

@@ -40,7 +40,7 @@ returns-2 : tie.Need-returns-2
 returns-2 c =
     let a = c .before .before .before .before .before .before .before .before .before .before .before .before .before .args in
     other-key _ _ (a .l) (a .page .0) (a .count) _ _ (c .before .before .before .before .before .before .before .before .before .before .find-slot .ensures .0) (c .before .before .before .before .before .before .before .on-page .ensures)
-    _ _ _ (c .before .before .before .before .before .if1 .left) (c .before .before .before .before .entry-at .ensures) (c .before .before .part .ensures) (c .before .equal .ensures) (c .if2 .taken)
+    _ _ _ (c .before .before .before .before .before .if1 .left) (c .before .before .before .before .entry-at .ensures) (c .before .before .part .ensures .0) (c .before .equal .ensures) (c .if2 .taken)
 
 add-found : tie.Need-add-found
 add-found c = search needs
@@ -52,7 +52,7 @@ returns-3 : tie.Need-returns-3
 returns-3 c =
     let a = c .before .before .before .before .before .before .before .before .before .before .before .before .before .before .args in
     same-key _ _ (a .l) (a .page .0) (a .count) _ _ (c .before .before .before .before .before .before .before .before .before .before .before .find-slot .ensures .0) (c .before .before .before .before .before .before .before .before .on-page .ensures)
-    _ _ _ (c .before .before .before .before .before .before .if1 .left) (c .before .before .before .before .before .entry-at .ensures) (c .before .before .before .part .ensures) (c .before .before .equal .ensures)
+    _ _ _ (c .before .before .before .before .before .before .if1 .left) (c .before .before .before .before .before .entry-at .ensures) (c .before .before .before .part .ensures .0) (c .before .before .equal .ensures)
     _ (c .before .if2 .left) (c .found .ensures)
 
 pub seek-on-spec : {M : Type 1} → statement M

@@ -23,7 +23,7 @@ loop-again c =
     let part = update .before in
     let turn = part .before .before .before in
     let lengths = turn .before .before .before .before .args .lengths .now in
-    more _ _ (getD lengths (turn .loop .i) 0) _ _ (turn .loop .inv) (part .part .ensures) (update .update .ensures .1)
+    more _ _ (getD lengths (turn .loop .i) 0) _ _ (turn .loop .inv) (part .part .ensures .0) (update .update .ensures .1)
 
 pub hash-parts-spec : {M : Type 1} → statement M
 hash-parts-spec =

@@ -1,5 +1,8 @@
 -- `field::part` meets its contract: the clipped start and count give the same part.
 use native.Mathlib.Nat.{add-sub-cancel-left}
+use mathlib.Core.Path.{refl}
+use native.Mathlib.Omega.{arith}
+use Prim.Native.Nat.{_+_}
 use borrow.Author.Needs.{needs}
 use Rattle.parts.proofs.Laws.{partAt-clipped}
 use Rattle.parts.proofs.part.Statement.{statement}
@@ -28,9 +31,11 @@ part-result-end c = search needs
 
 returns : tie.Need-returns
 returns c =
-    let a = c .before .before .before .before .args in
-    rw add-sub-cancel-left
-    (partAt-clipped (a .s .now) (a .at) (a .count) _ _ (c .before .before .least .ensures) (c .before .least2 .ensures))
+    let a = c .before .before .before .before .args in (
+      rw add-sub-cancel-left
+          (partAt-clipped (a .s .now) (a .at) (a .count) _ _ (c .before .before .least .ensures) (c .before .least2 .ensures)),
+      (refl, omega (arith, c .before .before .least .ensures)),
+    )
 
 pub part-spec : {M : Type 1} → statement M
 part-spec =

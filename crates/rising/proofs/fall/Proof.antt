@@ -54,8 +54,8 @@ returns-2 c =
     let a = c .before .before .before .before .before .before .before .before .before .args in
     let k = c .before .before .before .before .before .skip in
     let i = k .result in
-    let before = c .before .before .before .part .ensures ∙ ap (λ n. partAt (a .keys .now) n (a .width)) (before-at i (a .stride) (omega (arith, k .ensures .forward))) in
-    let told = told-at (a .keys .now) (a .stride) (a .width) i _ _ (c .before .rises .result) (c .before .rises .ensures) before (c .before .before .part2 .ensures) in
+    let before = c .before .before .before .part .ensures .0 ∙ ap (λ n. partAt (a .keys .now) n (a .width)) (before-at i (a .stride) (omega (arith, k .ensures .forward))) in
+    let told = told-at (a .keys .now) (a .stride) (a .width) i _ _ (c .before .rises .result) (c .before .rises .ensures) before (c .before .before .part2 .ensures .0) in
     sym (c .before .before .before .before .before .before .before .loop .inv .1 ∙ k .ensures .same
     ∙ falls (a .keys .now) (a .stride) (a .width) i (a .count) (c .before .before .before .before .if1 .left) (told ∙ not-true _ (c .if2 .taken)))
 
@@ -70,8 +70,8 @@ loop-again c =
     let a = c .before .before .before .before .before .before .before .before .before .args in
     let k = c .before .before .before .before .before .skip in
     let i = k .result in
-    let before = c .before .before .before .part .ensures ∙ ap (λ n. partAt (a .keys .now) n (a .width)) (before-at i (a .stride) (omega (arith, k .ensures .forward))) in
-    let told = told-at (a .keys .now) (a .stride) (a .width) i _ _ (c .before .rises .result) (c .before .rises .ensures) before (c .before .before .part2 .ensures) in (
+    let before = c .before .before .before .part .ensures .0 ∙ ap (λ n. partAt (a .keys .now) n (a .width)) (before-at i (a .stride) (omega (arith, k .ensures .forward))) in
+    let told = told-at (a .keys .now) (a .stride) (a .width) i _ _ (c .before .rises .result) (c .before .rises .ensures) before (c .before .before .part2 .ensures .0) in (
       omega arith,
       c .before .before .before .before .before .before .before .loop .inv .1 ∙ k .ensures .same
           ∙ rises-on (a .keys .now) (a .stride) (a .width) i (a .count) (c .before .before .before .before .if1 .left) (told ∙ not-false _ (c .if2 .left)),

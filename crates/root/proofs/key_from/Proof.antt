@@ -20,7 +20,7 @@ returns : tie.Need-returns
 returns c =
     let s = c .before .before .before .before .before .args .file .now in
     let at = c .before .before .before .before .before .args .at in
-    c .before .copy .ensures ∙ ap (overlay (replicate 16 0) 0) (c .before .before .before .part .ensures) ∙ key-laid s at (c .before .before .before .before .before .pre)
+    c .before .copy .ensures ∙ ap (overlay (replicate 16 0) 0) (c .before .before .before .part .ensures .0) ∙ key-laid s at (c .before .before .before .before .before .pre)
 
 pub key-from-spec : {M : Type 1} → statement M
 key-from-spec = tie.close (tie.spec part-requires slice-aggregate-copy copy-requires returns)

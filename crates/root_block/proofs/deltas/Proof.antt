@@ -21,7 +21,7 @@ part-requires c κs = search needs
 
 returns : tie.Need-returns
 unfolding deltasOf
-returns c = rw (c .part .ensures, c .before .before .header-size .ensures .0, c .before .before .before .read .ensures)
+returns c = rw (c .part .ensures .0, c .before .before .header-size .ensures .0, c .before .before .before .read .ensures)
 
 pub deltas-spec : {M : Type 1} → statement M
 deltas-spec =

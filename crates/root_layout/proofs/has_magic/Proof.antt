@@ -15,7 +15,7 @@ equal-requires c κs = search needs
 
 returns : tie.Need-returns
 unfolding hasMagic
-returns c = rw (← c .before .before .before .part .ensures, ← c .before .equal .ensures, c .if1 .taken)
+returns c = rw (← c .before .before .before .part .ensures .0, ← c .before .equal .ensures, c .if1 .taken)
 
 slice-aggregate-equal-2 : tie.Need-slice-aggregate-equal-2
 slice-aggregate-equal-2 c = search needs
@@ -25,7 +25,7 @@ equal-requires-2 c κs = search needs
 
 returns-2 : tie.Need-returns-2
 unfolding hasMagic
-returns-2 c = rw (← c .before .before .before .before .before .part .ensures, ← c .before .before .before .equal .ensures, c .before .before .if1 .left, c .equal2 .ensures)
+returns-2 c = rw (← c .before .before .before .before .before .part .ensures .0, ← c .before .before .before .equal .ensures, c .before .before .if1 .left, c .equal2 .ensures)
 
 pub has-magic-spec : {M : Type 1} → statement M
 has-magic-spec =

@@ -70,13 +70,13 @@ module _ (c : tie.After-list) where
 
   listed : lists.outcome (c .list .result) ≡ after (backCheck (settings w) (list w) (length (lent w)) (room w)) (answered (length (list w) ∷ []))
   listed =
-      c .list .ensures .0 ∙ ap (λ (s : List ℕ). listOutcome s (room w)) (c .before .before .part .ensures ∙ read)
+      c .list .ensures .0 ∙ ap (λ (s : List ℕ). listOutcome s (room w)) (c .before .before .part .ensures .0 ∙ read)
       ∙ list-answer (settings w) (list w) (length (lent w)) (room w) (wrote (told c) .0)
 
   left : c .list .last .1 .0 ≡ filled (backCheck (settings w) (list w) (length (lent w)) (room w)) (list w) (begun w .args .again .now)
   left =
       c .list .ensures .1
-      ∙ ap (λ (s : List ℕ). filled (listCheck s (room w)) (listOf s) (begun w .args .again .now)) (c .before .before .part .ensures ∙ read)
+      ∙ ap (λ (s : List ℕ). filled (listCheck s (room w)) (listOf s) (begun w .args .again .now)) (c .before .before .part .ensures .0 ∙ read)
       ∙ list-left (settings w) (list w) (length (lent w)) (room w) (wrote (told c) .0) (begun w .args .again .now)
 
 returns : tie.Need-returns
@@ -109,7 +109,7 @@ returns-3 c =
     let told-list = sym (ap lists.outcome (tell .enum-told .given .1)) ∙ listed l in
     let quiet = answered-after (backCheck (settings w) (list w) (length (lent w)) (room w)) _ _ told-list .0 in
     let checked =
-    c .check .ensures ∙ ap (λ (s : List ℕ). checkOutcome s) (c .before .part2 .ensures ∙ read l)
+    c .check .ensures ∙ ap (λ (s : List ℕ). checkOutcome s) (c .before .part2 .ensures .0 ∙ read l)
     ∙ check-answer (settings w) (list w) (length (lent w)) (room w) (wrote (told l) .0) quiet in
     (checked, (w .write .ensures .1, left l))
 

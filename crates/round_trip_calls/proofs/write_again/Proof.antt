@@ -65,7 +65,7 @@ returns-3 c =
     let size : told .n .given .0 .0 ≡ length (listOf s) = cc (quiet .1) in
     let bytes : (i : ℕ) → byteAt s i < 256 = λ i. begun k .shared-slice-known .given i .fits in
     let same = settled s bytes (yes .0) (a .list .now) (list .last .1 .0) _ (length (a .file .now)) _ _ _ (quiet .0) (list .ensures .1) size
-    (yes .1) (set .settings-of .ensures) (part .part .ensures) in
+    (yes .1) (set .settings-of .ensures) (part .part .ensures .0) in
     (write .write .ensures .0 ∙ same .0, (list .ensures .1, write .write .ensures .1 ∙ same .1 (a .file .now)))
 
 pub write-again-spec : {M : Type 1} → statement M

@@ -51,7 +51,7 @@ loop-again c =
     let n = c .before .before .before .before .before in
     let l = n .before .before .loop in
     copying-on (l .inv) (n .before .loop-test .taken) _ (n .next-row .ensures) _
-    (c .before .before .copy .ensures ∙ ap (overlay (l .output) (l .at)) (c .before .before .before .before .part .ensures))
+    (c .before .before .copy .ensures ∙ ap (overlay (l .output) (l .at)) (c .before .before .before .before .part .ensures .0))
 
 same-length : tie.Need-same-length Inv-loop μ-loop
 same-length c = ap length (c .before .loop .inv .copied) ∙ overlay-length _ _ _

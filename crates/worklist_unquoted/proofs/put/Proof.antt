@@ -13,7 +13,7 @@ put-undoubled-requires : tie.Need-put-undoubled-requires
 put-undoubled-requires c κs =
     let a = c .before .before .before .before .before .before .before .args in
     let rest = c .before .before .rest in
-    omega (arith, ap length (c .before .part .ensures), partAt-length (a .field .now) 1 (rest .result), rest .ensures)
+    omega (arith, ap length (c .before .part .ensures .0), partAt-length (a .field .now) 1 (rest .result), rest .ensures)
 
 returns : tie.Need-returns
 returns c =
@@ -22,7 +22,7 @@ returns c =
     let then = part .before .before in
     let a = then .before .before .before .before .args in
     let quoted = sym (then .before .whole .ensures) ∙ then .if1 .taken in
-    let e = whole-content (a .field .now) _ _ quoted (part .part .ensures) (part .before .rest .ensures) in
+    let e = whole-content (a .field .now) _ _ quoted (part .part .ensures .0) (part .before .rest .ensures) in
     (p .ensures .0 ∙ ap length e, p .ensures .1 ∙ ap (overlay (a .output .now) 0) e)
 
 returns-2 : tie.Need-returns-2

@@ -50,7 +50,7 @@ returns-2 c =
     let k = passed-is _ _ (f .ensures .0) (c .before .before .before .before .before .enum-told .given .1) in
     let o = sym (after-quiet (answered (a .length ∷ [])) k) in
     let long : length (a .key .now) ≡ 16 = search needs in
-    let part = c .before .before .before .part .ensures ∙ ap (λ (b : List ℕ). partAt b 0 (a .length)) (f .ensures .1) in
+    let part = c .before .before .before .part .ensures .0 ∙ ap (λ (b : List ℕ). partAt b 0 (a .length)) (f .ensures .1) in
     (ap result o, (c .before .copy .ensures ∙ ap (overlay (a .key .now) 0) part ∙ key-laid-over _ _ k (a .key .now) long, ap answerWords o))
 
 pub dwarnizza-key-text-spec : {M : Type 1} → statement M

@@ -50,7 +50,7 @@ digests-requires c κs = search needs
 check-chunk-requires : tie.Need-check-chunk-requires Inv-loop μ-loop
 check-chunk-requires c κs =
     let p = c .before .before .before .before .before .before .before .before .before .before .before .before .before .before .pre in
-    (p .0, c .before .before .before .before .before .before .before .before .before .before .loop .inv .place, chunk-hashed _ _ _ _ _ _ _ (λ k. c .before .before .before .before .before .before .before .before .before .before .before .before .before .shared-slice-known .given k .fits) (p .0) (c .before .before .before .before .before .before .before .before .before .before .loop .inv .place) (c .before .before .before .before .before .before .before .before .encoded-size .ensures) (c .before .before .before .before .before .before .part .ensures) (c .before .before .before .before .digests .ensures .0 .1))
+    (p .0, c .before .before .before .before .before .before .before .before .before .before .loop .inv .place, chunk-hashed _ _ _ _ _ _ _ (λ k. c .before .before .before .before .before .before .before .before .before .before .before .before .before .shared-slice-known .given k .fits) (p .0) (c .before .before .before .before .before .before .before .before .before .before .loop .inv .place) (c .before .before .before .before .before .before .before .before .encoded-size .ensures) (c .before .before .before .before .before .before .part .ensures .0) (c .before .before .before .before .digests .ensures .0 .1))
 
 enum-told : tie.Need-enum-told Inv-loop μ-loop
 enum-told c = search needs
@@ -75,7 +75,7 @@ add-check-chunk c = omega (arith, inside _ _ (c .before .before .before .before 
 check-chunk-requires-2 : tie.Need-check-chunk-requires-2 Inv-loop μ-loop
 check-chunk-requires-2 c κs =
     let p = c .before .before .before .before .before .before .before .before .before .before .before .before .before .before .before .before .before .before .before .before .pre in
-    (p .0, (ap₂ _+_ (c .before .before .before .before .before .before .before .before .before .before .before .before .before .before .before .before .loop .inv .place) (c .before .before .before .before .before .before .before .before .before .before .before .before .before .before .encoded-size .ensures) ∙ sym (chunk-after _ _ _)), chunk-hashed _ _ _ _ _ _ _ (λ k. c .before .before .before .before .before .before .before .before .before .before .before .before .before .before .before .before .before .before .before .shared-slice-known .given k .fits) (p .0) (ap₂ _+_ (c .before .before .before .before .before .before .before .before .before .before .before .before .before .before .before .before .loop .inv .place) (c .before .before .before .before .before .before .before .before .before .before .before .before .before .before .encoded-size .ensures) ∙ sym (chunk-after _ _ _)) (size-there _ _ _ _ (omega (arith, c .before .before .if1 .left, c .before .before .before .before .before .before .before .before .before .before .before .before .before .before .before .before .before .before .chunks .ensures)) (c .before .before .before .before .before .before .before .before .before .before .before .before .before .size-of .ensures)) (c .before .before .before .before .before .before .before .before .before .before .before .part2 .ensures) (c .before .before .before .before .before .before .before .before .before .before .digests .ensures .1 .1))
+    (p .0, (ap₂ _+_ (c .before .before .before .before .before .before .before .before .before .before .before .before .before .before .before .before .loop .inv .place) (c .before .before .before .before .before .before .before .before .before .before .before .before .before .before .encoded-size .ensures) ∙ sym (chunk-after _ _ _)), chunk-hashed _ _ _ _ _ _ _ (λ k. c .before .before .before .before .before .before .before .before .before .before .before .before .before .before .before .before .before .before .before .shared-slice-known .given k .fits) (p .0) (ap₂ _+_ (c .before .before .before .before .before .before .before .before .before .before .before .before .before .before .before .before .loop .inv .place) (c .before .before .before .before .before .before .before .before .before .before .before .before .before .before .encoded-size .ensures) ∙ sym (chunk-after _ _ _)) (size-there _ _ _ _ (omega (arith, c .before .before .if1 .left, c .before .before .before .before .before .before .before .before .before .before .before .before .before .before .before .before .before .before .chunks .ensures)) (c .before .before .before .before .before .before .before .before .before .before .before .before .before .size-of .ensures)) (c .before .before .before .before .before .before .before .before .before .before .before .part2 .ensures .0) (c .before .before .before .before .before .before .before .before .before .before .digests .ensures .1 .1))
 
 enum-told-3 : tie.Need-enum-told-3 Inv-loop μ-loop
 enum-told-3 c = search needs

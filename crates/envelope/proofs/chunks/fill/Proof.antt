@@ -62,7 +62,7 @@ add-to c =
     let l = c .before .before .before .before .before .before .before .before .loop in
     let i : l .i < chunkCount (a .h) = omega (arith, c .before .before .before .before .before .before .before .loop-test .taken, c .before .before .before .before .before .before .before .before .before .before .chunks .ensures) in
     let there = inside f (a .h) (c .before .before .before .before .before .before .before .before .before .before .before .before .before .pre .0) (l .i) i in
-    let content = c .before .before .before .before .part .ensures ∙ ap₂ (partAt f) (ap (λ n. n + 1) (l .inv .1)) (c .before .before .before .before .before .rest .ensures ∙ ap (λ n. n - 1) (c .before .before .before .before .before .before .encoded-size .ensures)) in
+    let content = c .before .before .before .before .part .ensures .0 ∙ ap₂ (partAt f) (ap (λ n. n + 1) (l .inv .1)) (c .before .before .before .before .before .rest .ensures ∙ ap (λ n. n - 1) (c .before .before .before .before .before .before .encoded-size .ensures)) in
     let turn = part-turn (contentOf f (a .h)) (l .i) (chunkCount (a .h)) _ (a .output .now) _ _ i (c .before .before .before .before .before .before .before .before .before .before .before .before .before .pre .1) content (l .inv .2) (l .inv .3) in
     omega (arith, turn .0, parts-room (contentOf f (a .h)) (l .i + 1) (chunkCount (a .h)) (omega arith), c .before .before .before .before .before .before .before .before .before .before .before .before .before .pre .1, c .before .before .before .before .before .before .before .before .before .before .before .before .before .good)
 
@@ -89,7 +89,7 @@ loop-again c =
     let l = c .before .before .before .before .before .before .before .before .loop in
     let i : l .i < chunkCount (a .h) = omega (arith, c .before .before .before .before .before .before .before .loop-test .taken, c .before .before .before .before .before .before .before .before .before .before .chunks .ensures) in
     let there = inside f (a .h) (c .before .before .before .before .before .before .before .before .before .before .before .before .before .pre .0) (l .i) i in
-    let content = c .before .before .before .before .part .ensures ∙ ap₂ (partAt f) (ap (λ n. n + 1) (l .inv .1)) (c .before .before .before .before .before .rest .ensures ∙ ap (λ n. n - 1) (c .before .before .before .before .before .before .encoded-size .ensures)) in
+    let content = c .before .before .before .before .part .ensures .0 ∙ ap₂ (partAt f) (ap (λ n. n + 1) (l .inv .1)) (c .before .before .before .before .before .rest .ensures ∙ ap (λ n. n - 1) (c .before .before .before .before .before .before .encoded-size .ensures)) in
     let turn = part-turn (contentOf f (a .h)) (l .i) (chunkCount (a .h)) _ (a .output .now) _ _ i (c .before .before .before .before .before .before .before .before .before .before .before .before .before .pre .1) content (l .inv .2) (l .inv .3) in
     (omega arith, ap₂ _+_ (l .inv .1) (c .before .before .before .before .before .before .encoded-size .ensures) ∙ sym (chunk-after f (a .h) (l .i)), turn .0, c .before .before .copy .ensures ∙ turn .1)
 

@@ -46,7 +46,7 @@ returns c =
     let a = c .before .before .before .before .before .before .before .before .before .args in
     let f = c .before .before .before .fall in
     c .refuse .ensures ∙ ap (refused index-order) (c .before .entry-number .ensures)
-    ∙ sym (rest-said (a .index .now) (a .l) (a .page .0) _ _ _ (f .result) (c .before .before .before .before .part .ensures ∙ ap (λ at. partAt (a .index .now) at pageSize) (c .before .before .before .before .before .page-at .ensures)) (c .before .before .before .before .before .before .entry-size .ensures .0)
+    ∙ sym (rest-said (a .index .now) (a .l) (a .page .0) _ _ _ (f .result) (c .before .before .before .before .part .ensures .0 ∙ ap (λ at. partAt (a .index .now) at pageSize) (c .before .before .before .before .before .page-at .ensures)) (c .before .before .before .before .before .before .entry-size .ensures .0)
     (c .before .before .before .before .before .before .before .on-page .ensures) (f .ensures) (c .before .before .if1 .taken))
 
 returns-2 : tie.Need-returns-2
@@ -54,7 +54,7 @@ unfolding checkOf
 returns-2 c =
     let a = c .before .before .before .before .before .before .before .args in
     let f = c .before .fall in
-    sym (rest-quiet (a .index .now) (a .l) (a .page .0) _ _ _ (f .result) (c .before .before .part .ensures ∙ ap (λ at. partAt (a .index .now) at pageSize) (c .before .before .before .page-at .ensures)) (c .before .before .before .before .entry-size .ensures .0)
+    sym (rest-quiet (a .index .now) (a .l) (a .page .0) _ _ _ (f .result) (c .before .before .part .ensures .0 ∙ ap (λ at. partAt (a .index .now) at pageSize) (c .before .before .before .page-at .ensures)) (c .before .before .before .before .entry-size .ensures .0)
     (c .before .before .before .before .before .on-page .ensures) (f .ensures) (c .if1 .left))
 
 pub check-rest-spec : {M : Type 1} → statement M

@@ -46,8 +46,8 @@ returns-2 c =
     let p = a .page .0 in
     let slot = c .before .before .before .before .before .before .last-slot .ensures in
     not-above-first s l p _ _ (c .rises .result) (c .before .before .before .before .before .before .before .before .if1 .left) (c .rises .ensures)
-    (c .before .before .before .part .ensures ∙ ap (λ at. partAt s at (l .«key_length»)) (c .before .before .before .before .before .entry-at .ensures ∙ ap (entryAt l (p - 1)) slot))
-    (c .before .part2 .ensures ∙ ap (λ at. partAt s at (l .«key_length»)) (c .before .before .entry-at2 .ensures))
+    (c .before .before .before .part .ensures .0 ∙ ap (λ at. partAt s at (l .«key_length»)) (c .before .before .before .before .before .entry-at .ensures ∙ ap (entryAt l (p - 1)) slot))
+    (c .before .part2 .ensures .0 ∙ ap (λ at. partAt s at (l .«key_length»)) (c .before .before .entry-at2 .ensures))
 
 pub first-above-spec : {M : Type 1} → statement M
 first-above-spec =

@@ -38,8 +38,8 @@ returns c =
     let p = a .page .0 in
     let slot = c .before .before .before .before .before .before .last-slot .ensures in
     hash-told _ _ _ _ (c .equal .result) last-key p (c .equal .ensures)
-    (c .before .before .part .ensures ∙ ap (λ at. partAt (a .index .now) at (l .«key_length»)) (c .before .before .before .last-key-at .ensures))
-    (c .before .part2 .ensures ∙ ap (λ at. partAt (a .index .now) at (l .«key_length»)) (c .before .before .before .before .before .entry-at .ensures ∙ ap (entryAt l p) slot))
+    (c .before .before .part .ensures .0 ∙ ap (λ at. partAt (a .index .now) at (l .«key_length»)) (c .before .before .before .last-key-at .ensures))
+    (c .before .part2 .ensures .0 ∙ ap (λ at. partAt (a .index .now) at (l .«key_length»)) (c .before .before .before .before .before .entry-at .ensures ∙ ap (entryAt l p) slot))
 
 pub last-key-right-spec : {M : Type 1} → statement M
 last-key-right-spec =

@@ -41,7 +41,7 @@ all-zero-requires c κs = search needs
 returns : tie.Need-returns
 unfolding paddingCheck
 returns c =
-    rw (c .all-zero .ensures, c .before .part .ensures, c .before .before .before .entry-at .ensures, c .before .before .entry-size .ensures .0, c .before .before .before .before .on-page .ensures)
+    rw (c .all-zero .ensures, c .before .part .ensures .0, c .before .before .before .entry-at .ensures, c .before .before .entry-size .ensures .0, c .before .before .before .before .on-page .ensures)
 
 pub padding-zero-spec : {M : Type 1} → statement M
 padding-zero-spec =

@@ -25,7 +25,7 @@ unfolding pageHashCheck
 returns c =
     let a = c .before .before .before .before .before .args in
     hash-told _ _ _ _ (c .equal .result) index-page-hash (a .page .0) (c .equal .ensures) (c .before .before .before .before .before .pre)
-    (c .before .part .ensures ∙ ap (λ at. partAt (a .index .now) at 8) (c .before .before .page-hash-at .ensures))
+    (c .before .part .ensures .0 ∙ ap (λ at. partAt (a .index .now) at 8) (c .before .before .page-hash-at .ensures))
 
 pub page-hash-right-spec : {M : Type 1} → statement M
 page-hash-right-spec =

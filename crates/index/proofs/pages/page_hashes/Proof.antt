@@ -36,11 +36,11 @@ returns c =
     let at = c .before .before .before .before .before .before .before .page-at .ensures in
     let first = c .before .before .before .before .before .before .part in
     let second = c .before .before .before .before .before .part2 in
-    let short : length (first .result .now) ≤ pageSize = omega (arith, ap length (first .ensures), partAt-length s (c .before .before .before .before .before .before .before .page-at .result) pageSize) in
-    let short-next : length (second .result .now) ≤ pageSize = omega (arith, ap length (second .ensures), partAt-length s (c .before .before .before .before .before .before .before .page-at .result + pageSize) pageSize) in
+    let short : length (first .result .now) ≤ pageSize = omega (arith, ap length (first .ensures .0), partAt-length s (c .before .before .before .before .before .before .before .page-at .result) pageSize) in
+    let short-next : length (second .result .now) ≤ pageSize = omega (arith, ap length (second .ensures .0), partAt-length s (c .before .before .before .before .before .before .before .page-at .result + pageSize) pageSize) in
     let next : c .before .before .before .before .before .before .before .page-at .result + pageSize ≡ pageAt (p + 1) = omega (arith, at) in (
-      first-eight-is (first .result .now) _ short (both .0 .1) ∙ ap (λ m. take 8 (md5 m)) (first .ensures ∙ ap (λ n. partAt s n pageSize) at),
-      first-eight-is (second .result .now) _ short-next (both .1 .1) ∙ ap (λ m. take 8 (md5 m)) (second .ensures ∙ ap (λ n. partAt s n pageSize) next),
+      first-eight-is (first .result .now) _ short (both .0 .1) ∙ ap (λ m. take 8 (md5 m)) (first .ensures .0 ∙ ap (λ n. partAt s n pageSize) at),
+      first-eight-is (second .result .now) _ short-next (both .1 .1) ∙ ap (λ m. take 8 (md5 m)) (second .ensures .0 ∙ ap (λ n. partAt s n pageSize) next),
     )
 
 pub page-hashes-spec : {M : Type 1} → statement M

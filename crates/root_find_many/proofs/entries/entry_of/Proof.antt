@@ -28,7 +28,7 @@ returns : tie.Need-returns
 returns c =
     let start = c .before .before .before .before .before in
     c .before .copy .ensures
-    ∙ ap (overlay (1 ∷ 0 ∷ 0 ∷ 0 ∷ replicate 16 0) 4) (c .before .before .before .part .ensures)
+    ∙ ap (overlay (1 ∷ 0 ∷ 0 ∷ 0 ∷ replicate 16 0) 4) (c .before .before .before .part .ensures .0)
     ∙ entry-laid (start .args .file .now) (start .args .at) (start .pre)
 
 pub entry-of-spec : {M : Type 1} → statement M
