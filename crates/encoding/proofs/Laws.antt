@@ -20,45 +20,46 @@ use Rattle.encoding_header.specs.Header.{tableOf, pageSize, pageAt, pageEnd, pa
 use Rattle.encoding_header.proofs.Bounds.{TypedHeader, page-most}
 use Rattle.encoding_page.specs.declared.Span.{Span}
 use Rattle.encoding_page.specs.declared.Walked.{Walked}
-use Rattle.encoding_page.specs.Entries.{walkFrom, keyAt, lastKey, rising, all, specKnown, startsWith, overEnd, spanOf}
-use Rattle.encoding.specs.Check.{entriesOf, keyBefore, specsOf, hashCheck, overCheck, firstKeyCheck, orderCheck, specCheck, pageCheck, pagesCheck, judged}
+use Rattle.encoding_page.specs.Entries.{walkFrom, keyAt, lastKey, rising, all, specKnown, startsWith, overEnd, spanOf, keySpan, lastSpan}
+use Rattle.encoding_page.proofs.Laws.{last-spanned}
+use Rattle.encoding.specs.Check.{entriesOf, keyBefore, specsOf, hashRight, entryOver, firstKeyRight, keysRise, specsKnown, inOrder, pageCheck, pagesCheck}
 
 -- ---- one page
 
--- the first of its five tests that speaks
-module _ (s : List ℕ) (h : Header) (kind : Kind) (i : ℕ) (hash : List ℕ) (w : Walked) (same : Bool) (a : same ≡ sameBytes hash (pageHash s h kind i)) where
-  pub hash-said : not same ≡ true → judged s h kind i hash w ≡ refused encoding-page-hash i
-  unfolding judged refusedIf first
+-- the first of the five tests that fails, by what the code found
+module _ (i : ℕ) (hashed over starts rises known same : Bool) (a : same ≡ hashed) where
+  pub hash-said : not same ≡ true → inOrder i hashed over starts rises known ≡ refused encoding-page-hash i
+  unfolding inOrder refusedIf first
   hash-said t = rw (← a, t)
 
-  module _ (t : not same ≡ false) (over : Bool) (b : over ≡ overEnd s kind (pageEnd h kind i) (w .end)) where
-    pub over-said : over ≡ true → judged s h kind i hash w ≡ refused entry-over-page i
-    unfolding judged refusedIf first
+  module _ (t : not same ≡ false) (beyond : Bool) (b : beyond ≡ over) where
+    pub over-said : beyond ≡ true → inOrder i hashed over starts rises known ≡ refused entry-over-page i
+    unfolding inOrder refusedIf first
     over-said u = rw (← a, t, ← b, u)
 
-    module _ (u : over ≡ false) (starts : Bool) (d : starts ≡ startsWith (keyAt s h kind) (firstKey s h kind i) (entriesOf s h kind i .entries)) where
-      pub first-key-said : not starts ≡ true → judged s h kind i hash w ≡ refused first-key i
-      unfolding judged firstKeyCheck refusedIf first
+    module _ (u : beyond ≡ false) (first-right : Bool) (d : first-right ≡ starts) where
+      pub first-key-said : not first-right ≡ true → inOrder i hashed over starts rises known ≡ refused first-key i
+      unfolding inOrder refusedIf first
       first-key-said v = rw (← a, t, ← b, u, ← d, v)
 
-      module _ (v : not starts ≡ false) where
-        pub order-said : not (w .rises) ≡ true → judged s h kind i hash w ≡ refused encoding-order i
-        unfolding judged firstKeyCheck refusedIf first
+      module _ (v : not first-right ≡ false) where
+        pub order-said : not rises ≡ true → inOrder i hashed over starts rises known ≡ refused encoding-order i
+        unfolding inOrder refusedIf first
         order-said r = rw (← a, t, ← b, u, ← d, v, r)
 
-        pub spec-said : not (w .rises) ≡ false → not (w .«specs_known») ≡ true → judged s h kind i hash w ≡ refused spec-number 0
-        unfolding judged firstKeyCheck refusedIf first
+        pub spec-said : not rises ≡ false → not known ≡ true → inOrder i hashed over starts rises known ≡ refused spec-number 0
+        unfolding inOrder refusedIf first
         spec-said r k = rw (← a, t, ← b, u, ← d, v, r, k)
 
-        pub none-said : not (w .rises) ≡ false → not (w .«specs_known») ≡ false → judged s h kind i hash w ≡ silent
-        unfolding judged firstKeyCheck refusedIf first
+        pub none-said : not rises ≡ false → not known ≡ false → inOrder i hashed over starts rises known ≡ silent
+        unfolding inOrder refusedIf first
         none-said r k = rw (← a, t, ← b, u, ← d, v, r, k)
 
 module _ (s : List ℕ) (h : Header) (kind : Kind) (i : ℕ) where
   -- its first entry
   pub starts-is : (e from : ℕ) (key : List ℕ) (starts : Bool) → e ≡ pageEnd h kind i → from ≡ pageAt h kind i → key ≡ firstKey s h kind i
-      → starts ≡ startsWith (keyAt s h kind) key (walkFrom s h kind e from .entries) → starts ≡ startsWith (keyAt s h kind) (firstKey s h kind i) (entriesOf s h kind i .entries)
-  unfolding entriesOf
+      → starts ≡ startsWith (keyAt s h kind) key (walkFrom s h kind e from .entries) → starts ≡ firstKeyRight s h kind i
+  unfolding firstKeyRight entriesOf
   starts-is e from key starts p q r d = d ∙ rw (p, q, r)
 
   -- what its entries tell is what the checks ask
@@ -66,14 +67,17 @@ module _ (s : List ℕ) (h : Header) (kind : Kind) (i : ℕ) where
     pub page-judged : (hash before : List ℕ) (specs : ℕ) → w .end ≡ walkFrom s h kind e from .end
         → w .rises ≡ rising (keyAt s h kind) before (walkFrom s h kind e from .entries)
         → w .«specs_known» ≡ all (specKnown s h kind specs) (walkFrom s h kind e from .entries)
-        → hash ≡ md5 (pageOf s h kind i) → before ≡ keyBefore s h kind i → specs ≡ specsOf s h → judged s h kind i hash w ≡ pageCheck s h kind i
-    unfolding judged pageCheck hashCheck overCheck orderCheck specCheck entriesOf
+        → hash ≡ md5 (pageOf s h kind i) → before ≡ keyBefore s h kind i → specs ≡ specsOf s h
+        → inOrder i (sameBytes hash (pageHash s h kind i)) (overEnd s kind (pageEnd h kind i) (w .end)) (firstKeyRight s h kind i) (w .rises) (w .«specs_known»)
+        ≡ pageCheck s h kind i
+    unfolding pageCheck hashRight entryOver keysRise specsKnown entriesOf
     page-judged hash before specs ends order numbers m b n = rw (ends, order, numbers, p, q, m, b, n)
 
-    pub key-after : (before : List ℕ) → spanOf s (w .last) ≡ lastKey (keyAt s h kind) before (walkFrom s h kind e from .entries)
-        → before ≡ keyBefore s h kind i → spanOf s (w .last) ≡ keyBefore s h kind (i + 1)
+    pub key-after : (before : Span) → w .last ≡ lastSpan (keySpan h kind) before (walkFrom s h kind e from .entries)
+        → spanOf s before ≡ keyBefore s h kind i → spanOf s (w .last) ≡ keyBefore s h kind (i + 1)
     unfolding keyBefore entriesOf
-    key-after before last b = rw (add-one i) (last ∙ rw (p, q, b))
+    key-after before last b =
+        rw (add-one i) (ap (spanOf s) last ∙ last-spanned s h kind before (walkFrom s h kind e from .entries) ∙ rw (p, q, b))
 
   pub page-hashed : TypedHeader h → (page bytes : List ℕ) → page ≡ pageOf s h kind i → bytes ≡ digestOr0 page → bytes ≡ md5 (pageOf s h kind i)
   unfolding pageOf

@@ -1,5 +1,5 @@
 -- The checks of an encoding file s with header h, in their order: rules E11, E12, E15 and E16.
-use mathlib.Core.Bool.{not}
+use mathlib.Core.Bool.{Bool, not}
 use mathlib.Core.List.{List, []}
 use Prim.Native.Nat.{ℕ, zero, suc}
 use Rattle.parts.specs.Part.{sameBytes}
@@ -11,7 +11,6 @@ use Rattle.encoding_header.specs.declared.Kind.{Kind}
 use Rattle.encoding_header.specs.declared.Kind.the-variants.{Content, Encoding}
 use Rattle.encoding_header.specs.declared.Header.{Header}
 use Rattle.encoding_header.specs.Header.{tableOf, pageAt, pageEnd, pageOf, pageHash, firstKey, specTable, headerOf, opening}
-use Rattle.encoding_page.specs.declared.Walked.{Walked}
 use Rattle.encoding_page.specs.Entries.{Walk, walkFrom, keyAt, rising, lastKey, all, specKnown, startsWith, overEnd}
 
 -- The entries of page i.
@@ -27,36 +26,39 @@ keyBefore s h kind (suc i) = lastKey (keyAt s h kind) (keyBefore s h kind i) (en
 unfoldable pub specsOf : List ℕ → Header → ℕ
 specsOf s h = countOf (specTable s h)
 
--- 34: the page's MD5 is not the stored one (rule E15).
-unfoldable pub hashCheck : List ℕ → Header → Kind → ℕ → Check
-hashCheck s h kind i = refusedIf (not (sameBytes (md5 (pageOf s h kind i)) (pageHash s h kind i))) encoding-page-hash i
+-- What is found of page i (rules E6, E11, E12, E15): its MD5 is the stored one,
+unfoldable pub hashRight : List ℕ → Header → Kind → ℕ → Bool
+hashRight s h kind i = sameBytes (md5 (pageOf s h kind i)) (pageHash s h kind i)
 
--- 35: an entry over the page's end (rules E6, E15).
-unfoldable pub overCheck : List ℕ → Header → Kind → ℕ → Check
-overCheck s h kind i = refusedIf (overEnd s kind (pageEnd h kind i) (entriesOf s h kind i .end)) entry-over-page i
+-- an entry is over its end,
+unfoldable pub entryOver : List ℕ → Header → Kind → ℕ → Bool
+entryOver s h kind i = overEnd s kind (pageEnd h kind i) (entriesOf s h kind i .end)
 
--- 37: the stored first key is not that of the first entry, or there is no entry (rules E12, E15).
-unfoldable pub firstKeyCheck : List ℕ → Header → Kind → ℕ → Check
-firstKeyCheck s h kind i =
-    refusedIf (not (startsWith (keyAt s h kind) (firstKey s h kind i) (entriesOf s h kind i .entries))) first-key i
+-- the stored first key is that of its first entry; where it has no entry it is not,
+unfoldable pub firstKeyRight : List ℕ → Header → Kind → ℕ → Bool
+firstKeyRight s h kind i = startsWith (keyAt s h kind) (firstKey s h kind i) (entriesOf s h kind i .entries)
 
--- 36: a key not above the one before, on the same page or at the end of the page before (rules E11, E15).
-unfoldable pub orderCheck : List ℕ → Header → Kind → ℕ → Check
-orderCheck s h kind i =
-    refusedIf (not (rising (keyAt s h kind) (keyBefore s h kind i) (entriesOf s h kind i .entries))) encoding-order i
+-- each key is above the one before, on the page or at the end of the page before,
+unfoldable pub keysRise : List ℕ → Header → Kind → ℕ → Bool
+keysRise s h kind i = rising (keyAt s h kind) (keyBefore s h kind i) (entriesOf s h kind i .entries)
 
--- 38: a spec number past the table; the place is 0 (rule E15).
-unfoldable pub specCheck : List ℕ → Header → Kind → ℕ → Check
-specCheck s h kind i = refusedIf (not (all (specKnown s h kind (specsOf s h)) (entriesOf s h kind i .entries))) spec-number 0
+-- and each spec number has a spec.
+unfoldable pub specsKnown : List ℕ → Header → Kind → ℕ → Bool
+specsKnown s h kind i = all (specKnown s h kind (specsOf s h)) (entriesOf s h kind i .entries)
 
--- One page: 34, 35, 37, 36, 38, in this order (rule E15).
+-- 34, 35, 37, 36, 38, in this order, by what is found of page i; the place of 38 is 0 (rule E15).
+unfoldable pub inOrder : (i : ℕ) (hashed over starts rises known : Bool) → Check
+inOrder i hashed over starts rises known =
+    first (refusedIf (not hashed) encoding-page-hash i)
+    (first (refusedIf over entry-over-page i)
+    (first (refusedIf (not starts) first-key i)
+    (first (refusedIf (not rises) encoding-order i)
+    (refusedIf (not known) spec-number 0))))
+
+-- One page.
 unfoldable pub pageCheck : List ℕ → Header → Kind → ℕ → Check
 pageCheck s h kind i =
-    first (hashCheck s h kind i)
-    (first (overCheck s h kind i)
-    (first (firstKeyCheck s h kind i)
-    (first (orderCheck s h kind i)
-    (specCheck s h kind i))))
+    inOrder i (hashRight s h kind i) (entryOver s h kind i) (firstKeyRight s h kind i) (keysRise s h kind i) (specsKnown s h kind i)
 
 -- The pages of a kind, one after the other.
 unfoldable pub pagesCheck : List ℕ → Header → Kind → Check
@@ -65,12 +67,3 @@ pagesCheck s h kind = firstFrom (pageCheck s h kind) 0 (tableOf h kind .pages)
 -- The full check: 30 to 33, then content pages, then encoding pages (rule E16).
 unfoldable pub fullCheck : List ℕ → Check
 fullCheck s = first (opening s) (first (pagesCheck s (headerOf s) Content) (pagesCheck s (headerOf s) Encoding))
-
--- What a page is judged by once it is hashed and read: what a private function ensures.
-unfoldable pub judged : List ℕ → Header → Kind → ℕ → List ℕ → Walked → Check
-judged s h kind i hash w =
-    first (refusedIf (not (sameBytes hash (pageHash s h kind i))) encoding-page-hash i)
-    (first (refusedIf (overEnd s kind (pageEnd h kind i) (w .end)) entry-over-page i)
-    (first (firstKeyCheck s h kind i)
-    (first (refusedIf (not (w .rises)) encoding-order i)
-    (refusedIf (not (w .«specs_known»)) spec-number 0))))

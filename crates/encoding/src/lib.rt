@@ -22,6 +22,7 @@ use refusal::Verdict;
 use refusal::refuse;
 ghost use mathlib.Core.Path.{_≡_};
 ghost use Prim.Native.Nat.{_+_};
+ghost use Rattle.parts.specs.Part.{sameBytes};
 ghost use Rattle.md5.specs.Message.{md5};
 ghost use Rattle.refusal.specs.Check.{checkOf};
 ghost use Rattle.encoding_header.specs.Header as header;
@@ -36,7 +37,7 @@ struct Judged {
 
 // One page, with its hash and what its entries tell: 34, 35, 37, 36, 38.
 fn judge(file: &[u8], h: Header, kind: Kind, page: u32, hash: &[u8; 16], w: Walked) -> Verdict
-    ensures { λ r. ⌜ checkOf r ≡ spec.judged (now (file .entry)) h kind page (now (hash .entry)) w ⌝ }
+    ensures { λ r. ⌜ checkOf r ≡ spec.inOrder page (sameBytes (now (hash .entry)) (header.pageHash (now (file .entry)) h kind page)) (entries.overEnd (now (file .entry)) kind (header.pageEnd h kind page) (w .end)) (spec.firstKeyRight (now (file .entry)) h kind page) (w .rises) (w .«specs_known») ⌝ }
 {
     let place = page as usize;
     if !equal(hash, page_hash(file, h, kind, page)) {

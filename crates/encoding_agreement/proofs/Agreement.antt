@@ -1,5 +1,5 @@
 -- Lookups in an encoding file that passes the full check agree with the plain reading, as specs/Agreement.antt states it.
-use mathlib.Core.Path.{_≡_, refl, sym, ap, _∙_}
+use mathlib.Core.Path.{_≡_, refl, ap, _∙_}
 use mathlib.Core.Bool.{Bool, true, false}
 use mathlib.Core.List.{List}
 use Prim.Native.Nat.{ℕ, _+_, _≤_, _<_}
@@ -10,7 +10,7 @@ use lib.ListN.{length}
 use Rattle.parts.specs.Part.{byteAt}
 use Rattle.parts.proofs.Laws.{partAt-inside}
 use Rattle.refusal.specs.Check.{silent}
-use Rattle.refusal.proofs.Laws.{first-left, first-right, passed-is, after-quiet}
+use Rattle.refusal.proofs.Laws.{first-left, first-right, after-quiet}
 use Rattle.spec_table.specs.Specs.{countOf}
 use Rattle.spec_table.proofs.Table.{spec-table}
 use Rattle.encoding_header.specs.declared.Kind.{Kind}
@@ -21,14 +21,14 @@ use Rattle.encoding_header.proofs.Laws.{whole, page-end}
 use Rattle.encoding_page.specs.Entries.{entrySize, ended, specNumber, specKnown}
 use Rattle.encoding_page.proofs.Laws.{entry-left, entry-inside, content-ended}
 use Rattle.encoding.specs.Check.{entriesOf, specsOf, pagesCheck, fullCheck}
-use Rattle.encoding_lookup.specs.Lookup.{lookupCheck, runAt, runLength, contentTold, contentLookup, encodingKeys, encodingTold, encodingLookup}
-use Rattle.encoding_lookup.proofs.Laws.{key-right, run-told, run-absent}
-use Rattle.encoding_agreement.specs.Plain.{found, allEntries, plainReading, plainTold, contentValues, plainContent, encodingValues, plainEncoding}
-use Rattle.encoding_agreement.specs.Agreement.{Run, ContentAgrees, EncodingAgrees, Calls, Agrees}
+use Rattle.encoding_lookup.specs.Lookup.{lookupCheck, runAt, runLength, contentTold, contentLookup, toldValue, placeTold, partTold, encodingKeys, encodingKeysAt, encodingTold, encodingLookup, encodingSpec, encodingSpecAt}
+use Rattle.encoding_lookup.proofs.Laws.{key-right}
+use Rattle.encoding_agreement.specs.Plain.{Plain, found, allEntries, plainReading, plainTold, contentValues, plainContent, encodingValues, plainEncoding}
+use Rattle.encoding_agreement.specs.Agreement.{Run, ContentAgrees, ContentAgreement, SpecOfEntry, EncodingAgrees, EncodingAgreement}
 use Rattle.encoding_agreement.proofs.Entries.{all-from, all-found, page-all}
 use Rattle.encoding_agreement.proofs.Checked.{specs-known}
 use Rattle.encoding_agreement.proofs.Search.{search-told}
-use Rattle.encoding_agreement.proofs.Specs.{spec-quiet, stands, spec-agrees}
+use Rattle.encoding_agreement.proofs.Specs.{spec-quiet, stands}
 
 module _ (s : List ℕ) (kind : Kind) (key : List ℕ) (begun : opening s ≡ silent) where
   unrefused : length key ≡ tableOf (headerOf s) kind .«key_size» → lookupCheck s kind key ≡ silent
@@ -86,21 +86,33 @@ module _ (s : List ℕ) (passed : fullCheck s ≡ silent) where
         after-quiet _ (unrefused s Content key begun size)
         ∙ search-told s (headerOf s) Content (contentTold s (headerOf s)) (contentValues s (headerOf s)) content-silent key (λ at f. refl)
 
-    run : (at : ℕ) → plainReading s Content key ≡ found at → Run s (headerOf s) at (encodingKeys s key)
-    unfolding plainContent plainTold contentValues entrySize
+    content-told : {p : Plain} → plainReading s Content key ≡ p → contentLookup s key ≡ plainTold (contentValues s (headerOf s)) p
+    unfolding plainContent
+    content-told f = content-same ∙ ap (plainTold (contentValues s (headerOf s))) f
+
+    run : (at : ℕ) → plainReading s Content key ≡ found at → Run s (headerOf s) at (encodingKeys s key) (encodingKeysAt s key)
+    unfolding plainTold contentValues entrySize toldValue encodingKeys encodingKeysAt
     run at f =
         let h : Header = headerOf s in
-        let part = sym (run-told s key _ _ _ _ (sym (content-same ∙ ap (plainTold (contentValues s h)) f))) in
+        let part = ap (partTold s) (content-told f) in
         let inside = found-inside s Content key begun at f in
         let count : length (encodingKeys s key) ≡ runLength s h at = ap length part ∙ partAt-inside s (runAt h at) (runLength s h at) (omega arith) in
-        record { part = part; some = found-some s key at begun f; count = count; ends = omega arith; inside = inside }
+        record {
+          placed = ap placeTold (content-told f);
+          part = part;
+          some = found-some s key at begun f;
+          count = count;
+          ends = omega arith;
+          inside = inside;
+        }
 
-    pub content-agrees : ContentAgrees s key (contentLookup s key) (encodingKeys s key)
-    unfolding plainContent plainTold
+    pub content-agrees : ContentAgrees s key (contentLookup s key) (encodingKeys s key) (encodingKeysAt s key)
+    unfolding plainTold toldValue encodingKeys encodingKeysAt
     content-agrees = record {
       same = content-same;
       run = run;
-      no-run = λ f. sym (run-absent s key _ (sym (content-same ∙ ap (plainTold (contentValues s (headerOf s))) f)));
+      no-run = λ f. ap (partTold s) (content-told f);
+      none = λ f. ap placeTold (content-told f);
     }
 
   module _ (key : List ℕ) (size : length key ≡ headerOf s .encoding .«key_size») where
@@ -113,24 +125,42 @@ module _ (s : List ℕ) (passed : fullCheck s ≡ silent) where
         (all-from _ _ 0 (tableOf h Encoding .pages) (λ i l. specs-known s h Encoding encoding-silent i (omega arith)))
         at f)
 
-    pub encoding-agrees : EncodingAgrees s key (encodingLookup s key)
+    encoding-same : encodingLookup s key ≡ plainEncoding s key
     unfolding encodingLookup plainEncoding plainReading encodingValues encodingTold tableOf
-    encoding-agrees =
+    encoding-same =
         let h : Header = headerOf s in
-        let counted = spec-table (specTable s h) .counted in
+        after-quiet _ (unrefused s Encoding key begun size)
+        ∙ search-told s h Encoding (encodingTold s h) (encodingValues s h) encoding-silent key
+        (λ at f. after-quiet _ (spec-quiet s h _ (number-known at f)))
+
+    encoding-told : {p : Plain} → plainReading s Encoding key ≡ p → encodingLookup s key ≡ plainTold (encodingValues s (headerOf s)) p
+    unfolding plainEncoding
+    encoding-told f = encoding-same ∙ ap (plainTold (encodingValues s (headerOf s))) f
+
+    entry : (at : ℕ) → plainReading s Encoding key ≡ found at → SpecOfEntry s (headerOf s) at (encodingSpec s key) (encodingSpecAt s key)
+    unfolding plainTold encodingValues toldValue encodingSpec encodingSpecAt
+    entry at f =
+        let h : Header = headerOf s in
+        let there = stands s (specNumber s h at) begun (number-known at f) in
         record {
-          same = after-quiet _ (unrefused s Encoding key begun size)
-              ∙ search-told s h Encoding (encodingTold s h) (encodingValues s h) encoding-silent key
-              (λ at f. after-quiet _ (spec-quiet s h _ (number-known at f)));
-          known = λ at f. omega (arith, number-known at f);
-          stands = λ at f. stands s _ begun (number-known at f);
+          known = omega (arith, number-known at f, spec-table (specTable s h) .counted);
+          stands = there;
+          handed = ap (partTold s) (encoding-told f) ∙ there .part;
+          placed = ap placeTold (encoding-told f);
         }
 
-pub agrees : (s content-key encoding-key : List ℕ) (number : ℕ) (c : Calls s content-key encoding-key number) → Agrees s content-key encoding-key number c
-agrees s content-key encoding-key number c =
-    let passed : fullCheck s ≡ silent = passed-is (c .checked) (fullCheck s) (c .check-ensures) (c .passed) in
-    record {
-      content-agrees = rw (c .content-ensures, c .keys-ensures) (content-agrees s passed content-key (c .content-size));
-      encoding-agrees = rw (c .encoding-ensures) (encoding-agrees s passed encoding-key (c .encoding-size));
-      spec-agrees = rw (c .spec-ensures, c .string-ensures) (spec-agrees s number (begun s passed));
+    pub encoding-agrees : EncodingAgrees s key (encodingLookup s key) (encodingSpec s key) (encodingSpecAt s key)
+    unfolding plainTold toldValue encodingSpec encodingSpecAt
+    encoding-agrees = record {
+      same = encoding-same;
+      entry = entry;
+      no-spec = λ f. ap (partTold s) (encoding-told f);
+      none = λ f. ap placeTold (encoding-told f);
     }
+
+-- the two claims
+pub content-agreement : ContentAgreement
+content-agreement s passed key size = content-agrees s passed key size
+
+pub encoding-agreement : EncodingAgreement
+encoding-agreement s passed key size = encoding-agrees s passed key size

@@ -3,13 +3,17 @@
 use mathlib.Core.Bool.{cond}
 use mathlib.Core.List.{List, [], _∷_}
 use Prim.Native.Nat.{ℕ, _+_}
+use lib.Dec.{ltb}
+use lib.ListN.{length, take, getD}
 use Rattle.parts.specs.Part.{byteAt, sameBytes, partsFrom}
 use Rattle.field.specs.Number.{bigAt}
-use Rattle.refusal.specs.Outcome.{Outcome, answered, absent}
+use Rattle.refusal.specs.Number.{spec-number}
+use Rattle.refusal.specs.Outcome.{Outcome, answered, absent, refusal}
+use Rattle.spec_table.specs.Specs.{runOf, strings}
 use Rattle.encoding_header.specs.declared.Kind.{Kind}
 use Rattle.encoding_header.specs.declared.Kind.the-variants.{Content, Encoding}
 use Rattle.encoding_header.specs.declared.Header.{Header}
-use Rattle.encoding_header.specs.Header.{headerOf, tableOf}
+use Rattle.encoding_header.specs.Header.{headerSize, headerOf, tableOf, specTable}
 use Rattle.encoding_page.specs.Entries.{countWidth, sizeWidth, specWidth, keyAt, specNumber}
 use Rattle.encoding.specs.Check.{entriesOf}
 use Rattle.encoding_lookup.specs.Lookup.{runAt, runLength, specAt, specLength}
@@ -55,3 +59,14 @@ encodingValues s h at =
 
 unfoldable pub plainEncoding : List ℕ → List ℕ → Outcome
 plainEncoding s sought = plainTold (encodingValues s (headerOf s)) (plainReading s Encoding sought)
+
+-- The specs of a file, in the order of their numbers.
+abbrev pub specsIn : List ℕ → List (List ℕ)
+specsIn s = strings (specTable s (headerOf s))
+
+-- Of spec n: place and length. Before it stand the specs of lower numbers, each with its zero byte. Past the last one it is 38.
+unfoldable pub plainSpec : List ℕ → ℕ → Outcome
+plainSpec s n =
+    cond (ltb n (length (specsIn s)))
+    (answered ((headerSize + length (runOf (take n (specsIn s)))) ∷ length (getD (specsIn s) n []) ∷ []))
+    (refusal spec-number 0)

@@ -11,6 +11,8 @@ use refusal::NOT_ENCODING;
 use refusal::Refusal;
 use refusal::SPEC_TABLE_OPEN;
 ghost use mathlib.Core.Path.{_≡_};
+ghost use Prim.Native.Nat.{_+_, min};
+ghost use lib.ListN.{length};
 ghost use Rattle.refusal.specs.Outcome.{refusal};
 ghost use Rattle.encoding_header.specs.Header as spec;
 
@@ -182,6 +184,7 @@ pub fn page_of(file: &[u8], h: Header, kind: Kind, page: u32) -> &[u8]
 // The spec table.
 pub fn spec_table(file: &[u8], h: Header) -> &[u8]
     ensures { λ r. ⌜ now r ≡ spec.specTable (now (file .entry)) h ⌝ }
+    ensures { λ r. ⌜ (r .ptr .0 ≡ file .entry .ptr .0) × (r .ptr .1 ≡ file .entry .ptr .1 + min spec.headerSize (length (now (file .entry)))) ⌝ }
 {
     part(file, HEADER_SIZE, h.spec_size as usize)
 }

@@ -12,7 +12,7 @@ use Rattle.parts.specs.Part.{byteAt, partAt}
 use Rattle.field.specs.Number.{bigAt}
 use Rattle.refusal.specs.Check.{Check, silent, refused, refusedIf, first}
 use Rattle.refusal.specs.Number.{encoding-key-length, entry-over-page, spec-number}
-use Rattle.refusal.specs.Outcome.{Outcome, answered, absent, refusal, after}
+use Rattle.refusal.specs.Outcome.{Outcome, answered, refusal, after}
 use Rattle.refusal.proofs.Laws.{said, quiet, skip, after-said, after-quiet}
 use Rattle.spec_table.specs.Specs.{countOf, startOf, lengthAt}
 use Rattle.spec_table.proofs.Table.{spec-closed, spec-past}
@@ -27,7 +27,7 @@ use Rattle.encoding_page.specs.Entries.{specNumber, walkFrom, searched, overEnd
 use Rattle.encoding_index.specs.Chosen.{pagesUpTo}
 use Rattle.encoding_lookup.specs.declared.Seek.{Seek}
 use Rattle.encoding_lookup.specs.declared.Seek.the-variants.{Entry, Nowhere, Over}
-use Rattle.encoding_lookup.specs.Lookup.{pageSeek, seekOn, seek, lengthCheck, lookupCheck, seekTold, runAt, runLength, contentTold, contentLookup, partAfter, runOf, encodingKeys, specCheck, specAt, specLength, specTold, encodingTold}
+use Rattle.encoding_lookup.specs.Lookup.{pageSeek, seekOn, seek, lengthCheck, lookupCheck, seekTold, contentLookup, toldValue, partTold, encodingKeys, specCheck, specAt, specLength, specTold, encodingTold}
 
 -- ---- 39
 
@@ -99,44 +99,9 @@ lookup-told k told search h m end e g f v w = rw (← g) (sym (after-quiet (seek
 
 -- ---- the run of encoding keys
 
-module _ (s : List ℕ) (h : Header) where
-  run-by : (k : Check) (v : Seek) (size keys at n : ℕ) → answered (size ∷ keys ∷ at ∷ n ∷ []) ≡ after k (seekTold (contentTold s h) v)
-      → partAt s at n ≡ partAfter k (runOf s h v)
-  unfolding after seekTold partAfter runOf
-  run-by silent (Entry x) size keys at n e =
-      let a : at ≡ runAt h x = cc in
-      let b : n ≡ runLength s h x = cc in
-      ap₂ (partAt s) a b
-  run-by silent Nowhere size keys at n e = absurd (let z : _≡_ {A = ℕ} 0 1 = cc in omega arith)
-  run-by silent (Over i) size keys at n e = absurd (let z : _≡_ {A = ℕ} 0 1 = cc in omega arith)
-  run-by (refused number place) v size keys at n e = absurd (let z : _≡_ {A = ℕ} 0 1 = cc in omega arith)
-
-  none-by : (k : Check) (v : Seek) (values : List ℕ) → absent values ≡ after k (seekTold (contentTold s h) v) → [] ≡ partAfter k (runOf s h v)
-  unfolding after seekTold partAfter runOf
-  none-by silent (Entry x) values e = absurd (let z : _≡_ {A = ℕ} 0 1 = cc in omega arith)
-  none-by silent Nowhere values e = refl
-  none-by silent (Over i) values e = refl
-  none-by (refused number place) v values e = refl
-
-  refused-by : (k : Check) (v : Seek) (number place : ℕ) → refusal number place ≡ after k (seekTold (contentTold s h) v) → [] ≡ partAfter k (runOf s h v)
-  unfolding after seekTold partAfter runOf
-  refused-by silent (Entry x) number place e = absurd (let z : _≡_ {A = ℕ} 0 1 = cc in omega arith)
-  refused-by silent Nowhere number place e = refl
-  refused-by silent (Over i) number place e = refl
-  refused-by (refused m n) v number place e = refl
-
-module _ (s key : List ℕ) where
-  pub run-told : (size keys at n : ℕ) → answered (size ∷ keys ∷ at ∷ n ∷ []) ≡ contentLookup s key → partAt s at n ≡ encodingKeys s key
-  unfolding contentLookup encodingKeys
-  run-told size keys at n e = run-by s (headerOf s) (lookupCheck s Content key) (seek s (headerOf s) Content key) size keys at n e
-
-  pub run-absent : (values : List ℕ) → absent values ≡ contentLookup s key → [] ≡ encodingKeys s key
-  unfolding contentLookup encodingKeys
-  run-absent values e = none-by s (headerOf s) (lookupCheck s Content key) (seek s (headerOf s) Content key) values e
-
-  pub run-refused : (number place : ℕ) → refusal number place ≡ contentLookup s key → [] ≡ encodingKeys s key
-  unfolding contentLookup encodingKeys
-  run-refused number place e = refused-by s (headerOf s) (lookupCheck s Content key) (seek s (headerOf s) Content key) number place e
+pub run-told : (s key : List ℕ) (size keys at n : ℕ) → answered (size ∷ keys ∷ at ∷ n ∷ []) ≡ contentLookup s key → partAt s at n ≡ encodingKeys s key
+unfolding toldValue encodingKeys
+run-told s key size keys at n e = ap (partTold s) e
 
 -- ---- specs
 

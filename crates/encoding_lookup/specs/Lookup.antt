@@ -3,13 +3,13 @@ use mathlib.Core.Bool.{not, cond}
 use mathlib.Core.List.{List, [], _∷_}
 use Prim.Native.Nat.{ℕ, zero, suc, _+_, _*_}
 use lib.Dec.{ltb, eqb}
-use lib.ListN.{length}
+use lib.ListN.{length, getD}
 use Rattle.parts.specs.Part.{byteAt, partAt}
 use Rattle.field.specs.Number.{bigAt}
 use Rattle.refusal.specs.Check.{Check, silent, refused, refusedIf, first}
 use Rattle.refusal.specs.Number.{encoding-key-length, entry-over-page, spec-number}
 use Rattle.refusal.specs.Outcome.{Outcome, answered, absent, refusal, after}
-use Rattle.spec_table.specs.Specs.{countOf, startOf, lengthAt, specOf}
+use Rattle.spec_table.specs.Specs.{countOf, startOf, lengthAt, specOf, placeOf}
 use Rattle.encoding_header.specs.declared.Kind.{Kind}
 use Rattle.encoding_header.specs.declared.Kind.the-variants.{Content, Encoding}
 use Rattle.encoding_header.specs.declared.Header.{Header}
@@ -85,18 +85,26 @@ contentOutcome (content.the-variants.Found c) = answered (c .size ∷ c .keys �
 contentOutcome content.the-variants.Absent = absent []
 contentOutcome (content.the-variants.Refused r) = refusal (r .number) (r .place)
 
--- The run itself; none after a refusal and where the key is absent (rule E24).
-unfoldable pub partAfter : Check → List ℕ → List ℕ
-partAfter silent part = part
-partAfter (refused number place) part = []
+-- A value that a lookup tells, by its number; 0 where it refuses or the key is absent.
+unfoldable pub toldValue : ℕ → Outcome → ℕ
+toldValue i (answered values) = getD values i 0
+toldValue i (absent values) = 0
+toldValue i (refusal number place) = 0
 
-unfoldable pub runOf : List ℕ → Header → Seek → List ℕ
-runOf s h (Entry at) = partAt s (runAt h at) (runLength s h at)
-runOf s h Nowhere = []
-runOf s h (Over i) = []
+-- The part that a lookup of a key tells: its place is the third value and its length the fourth. So it is empty, at the file's
+-- start, where the lookup refuses or the key is absent (rule E24).
+abbrev pub placeTold : Outcome → ℕ
+placeTold told = toldValue 2 told
 
+abbrev pub partTold : List ℕ → Outcome → List ℕ
+partTold s told = partAt s (placeTold told) (toldValue 3 told)
+
+-- The run of encoding keys, and where it stands.
 unfoldable pub encodingKeys : List ℕ → List ℕ → List ℕ
-encodingKeys s key = partAfter (lookupCheck s Content key) (runOf s (headerOf s) (seek s (headerOf s) Content key))
+encodingKeys s key = partTold s (contentLookup s key)
+
+unfoldable pub encodingKeysAt : List ℕ → List ℕ → ℕ
+encodingKeysAt s key = placeTold (contentLookup s key)
 
 -- ---- a spec by its number
 
@@ -122,8 +130,20 @@ specOutcome (spec.the-variants.Found p) = answered (p .at ∷ p .length ∷ [])
 specOutcome (spec.the-variants.Refused r) = refusal (r .number) (r .place)
 
 -- The spec itself, the string of that number in the table; none after a refusal (rule E24).
+unfoldable pub partAfter : Check → List ℕ → List ℕ
+partAfter silent part = part
+partAfter (refused number place) part = []
+
 unfoldable pub specString : List ℕ → ℕ → List ℕ
 specString s n = partAfter (opening s) (specOf (specTable s (headerOf s)) n)
+
+-- Where it stands; the table's start for a number past the table, the file's start after 30 to 33.
+unfoldable pub placeAfter : Check → ℕ → ℕ
+placeAfter silent at = at
+placeAfter (refused number place) at = 0
+
+unfoldable pub specStringAt : List ℕ → ℕ → ℕ
+specStringAt s n = placeAfter (opening s) (headerSize + placeOf (specTable s (headerOf s)) n)
 
 -- ---- an encoding key
 
@@ -145,3 +165,10 @@ unfoldable pub encodingOutcome : EncodingFound → Outcome
 encodingOutcome (encoding.the-variants.Found e) = answered (e .spec ∷ e .size ∷ e .at ∷ e .length ∷ [])
 encodingOutcome encoding.the-variants.Absent = absent []
 encodingOutcome (encoding.the-variants.Refused r) = refusal (r .number) (r .place)
+
+-- The spec of the found entry, and where it stands.
+unfoldable pub encodingSpec : List ℕ → List ℕ → List ℕ
+encodingSpec s key = partTold s (encodingLookup s key)
+
+unfoldable pub encodingSpecAt : List ℕ → List ℕ → ℕ
+encodingSpecAt s key = placeTold (encodingLookup s key)

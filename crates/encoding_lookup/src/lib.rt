@@ -143,10 +143,11 @@ pub fn find_content(file: &[u8], key: &[u8]) -> ContentFound
     }
 }
 
-// The run of encoding keys of a content key, as the part of the file where it stands; empty where the lookup refuses or the key is
-// absent.
+// The run of encoding keys of a content key, as the part of the file where it stands, at the place that the lookup tells; empty,
+// at the file's start, where the lookup refuses or the key is absent.
 pub fn encoding_keys<'a>(file: &'a [u8], key: &[u8]) -> &'a [u8]
     ensures { λ r. ⌜ now r ≡ spec.encodingKeys (now (file .entry)) (now (key .entry)) ⌝ }
+    ensures { λ r. ⌜ (r .ptr .0 ≡ file .entry .ptr .0) × (r .ptr .1 ≡ file .entry .ptr .1 + spec.encodingKeysAt (now (file .entry)) (now (key .entry))) ⌝ }
 {
     match find_content(file, key) {
         ContentFound::Found(c) => part(file, c.at, c.length),
@@ -209,6 +210,19 @@ pub fn find_encoding(file: &[u8], key: &[u8]) -> EncodingFound
     }
 }
 
+// The spec of an encoding key, as the part of the file where it stands, at the place that the lookup tells; empty, at the file's
+// start, where the lookup refuses or the key is absent.
+pub fn encoding_spec<'a>(file: &'a [u8], key: &[u8]) -> &'a [u8]
+    ensures { λ r. ⌜ now r ≡ spec.encodingSpec (now (file .entry)) (now (key .entry)) ⌝ }
+    ensures { λ r. ⌜ (r .ptr .0 ≡ file .entry .ptr .0) × (r .ptr .1 ≡ file .entry .ptr .1 + spec.encodingSpecAt (now (file .entry)) (now (key .entry))) ⌝ }
+{
+    match find_encoding(file, key) {
+        EncodingFound::Found(e) => part(file, e.at, e.length),
+        EncodingFound::Absent => part(file, 0, 0),
+        EncodingFound::Refused(_) => part(file, 0, 0),
+    }
+}
+
 // Where the spec with a number stands. Refusals 30 to 33, then 38.
 pub fn find_spec(file: &[u8], number: u32) -> SpecFound
     ensures { λ r. ⌜ spec.specOutcome r ≡ spec.specLookup (now (file .entry)) number ⌝ }
@@ -219,9 +233,11 @@ pub fn find_spec(file: &[u8], number: u32) -> SpecFound
     }
 }
 
-// The spec with a number, as the part of the file where it stands; empty where asking for it refuses.
+// The spec with a number, as the part of the file where it stands; empty where asking for it refuses, at the spec table's start
+// with 38 and at the file's start with 30 to 33.
 pub fn spec_string(file: &[u8], number: u32) -> &[u8]
     ensures { λ r. ⌜ now r ≡ spec.specString (now (file .entry)) number ⌝ }
+    ensures { λ r. ⌜ (r .ptr .0 ≡ file .entry .ptr .0) × (r .ptr .1 ≡ file .entry .ptr .1 + spec.specStringAt (now (file .entry)) number) ⌝ }
 {
     match encoding_header::open(file) {
         Opened::Refused(_) => part(file, 0, 0),

@@ -16,7 +16,7 @@ use Rattle.encoding_header.specs.Header.{tableOf}
 use Rattle.encoding_page.specs.declared.Span.{Span}
 use Rattle.encoding_page.specs.declared.Search.{Search}
 use Rattle.encoding_page.specs.declared.Search.the-variants.{At, End}
-use Rattle.encoding_page.specs.Entries.{keyOffset, keySize, entrySize, keyAt, specNumber, noSpec, padding, ended, Walk, turn, walkBy, walkFrom, headOr, nextEntry, risesTo, rising, lastKey, all, specKnown, startsWith, overEnd, searchIn, searched, spanOf}
+use Rattle.encoding_page.specs.Entries.{keyOffset, keySize, entrySize, keyAt, specNumber, noSpec, padding, ended, Walk, turn, walkBy, walkFrom, headOr, nextEntry, risesTo, rising, lastKey, all, specKnown, startsWith, overEnd, searchIn, searched, spanOf, keySpan, lastSpan}
 
 -- ---- tests
 
@@ -177,10 +177,11 @@ module _ (s : List ℕ) (h : Header) (kind : Kind) (e : ℕ) where
 -- ---- reading the entries one by one
 
 -- What was read before an offset, and what is still to read from there on.
-pub record Reading (s : List ℕ) (h : Header) (kind : Kind) (e from : ℕ) (before : List ℕ) (specs at : ℕ) (last : List ℕ) (rises known : Bool) : Type 0 where
+pub record Reading (s : List ℕ) (h : Header) (kind : Kind) (e from : ℕ) (before : Span) (specs at : ℕ) (last : Span) (rises known : Bool) : Type 0 where
   pub ends : walkFrom s h kind e from .end ≡ walkFrom s h kind e at .end
-  pub order : rising (keyAt s h kind) before (walkFrom s h kind e from .entries) ≡ (rises && rising (keyAt s h kind) last (walkFrom s h kind e at .entries))
-  pub last-key : lastKey (keyAt s h kind) before (walkFrom s h kind e from .entries) ≡ lastKey (keyAt s h kind) last (walkFrom s h kind e at .entries)
+  pub order : rising (keyAt s h kind) (spanOf s before) (walkFrom s h kind e from .entries)
+      ≡ (rises && rising (keyAt s h kind) (spanOf s last) (walkFrom s h kind e at .entries))
+  pub last-key : lastSpan (keySpan h kind) before (walkFrom s h kind e from .entries) ≡ lastSpan (keySpan h kind) last (walkFrom s h kind e at .entries)
   pub numbers : all (specKnown s h kind specs) (walkFrom s h kind e from .entries) ≡ (known && all (specKnown s h kind specs) (walkFrom s h kind e at .entries))
   pub real : ended s h kind e at ≡ false → padding s h kind at ≡ false
 
@@ -192,35 +193,49 @@ and-true : (a : Bool) → (a && true) ≡ a
 and-true true = refl
 and-true false = refl
 
-module _ (s : List ℕ) (h : Header) (kind : Kind) (e from : ℕ) (before : List ℕ) (specs : ℕ) where
+-- the key at a span's place
+span-key : (s : List ℕ) (h : Header) (kind : Kind) (at : ℕ) → spanOf s (keySpan h kind at) ≡ keyAt s h kind at
+unfolding keyAt
+span-key s h kind at = refl
+
+-- the last key at its place
+pub last-spanned : (s : List ℕ) (h : Header) (kind : Kind) (before : Span) (entries : List ℕ)
+    → spanOf s (lastSpan (keySpan h kind) before entries) ≡ lastKey (keyAt s h kind) (spanOf s before) entries
+unfolding lastSpan lastKey
+last-spanned s h kind before [] = refl
+last-spanned s h kind before (at ∷ entries) =
+    last-spanned s h kind (keySpan h kind at) entries ∙ ap (λ k. lastKey (keyAt s h kind) k entries) (span-key s h kind at)
+
+module _ (s : List ℕ) (h : Header) (kind : Kind) (e from : ℕ) (before : Span) (specs : ℕ) where
   pub reading-first : (at : ℕ) → at ≡ nextEntry s h kind e from → Reading s h kind e from before specs at before true true
   reading-first at q =
       let n = next-is s h kind e from in
       rw q (record {
         ends = ap (λ (w : Walk). w .end) (n .same);
-        order = ap (λ (w : Walk). rising (keyAt s h kind) before (w .entries)) (n .same);
-        last-key = ap (λ (w : Walk). lastKey (keyAt s h kind) before (w .entries)) (n .same);
+        order = ap (λ (w : Walk). rising (keyAt s h kind) (spanOf s before) (w .entries)) (n .same);
+        last-key = ap (λ (w : Walk). lastSpan (keySpan h kind) before (w .entries)) (n .same);
         numbers = ap (λ (w : Walk). all (specKnown s h kind specs) (w .entries)) (n .same);
         real = n .real;
       })
 
-  module _ (at : ℕ) (last : List ℕ) (rises known : Bool) (r : Reading s h kind e from before specs at last rises known) where
-    pub reading-next : (to : ℕ) (key : List ℕ) (above spec : Bool) → ended s h kind e at ≡ false → key ≡ keyAt s h kind at
-        → above ≡ risesTo last key → spec ≡ specKnown s h kind specs at → to ≡ nextEntry s h kind e (at + entrySize s h kind at)
+  module _ (at : ℕ) (last : Span) (rises known : Bool) (r : Reading s h kind e from before specs at last rises known) where
+    pub reading-next : (to : ℕ) (key : Span) (above spec : Bool) → ended s h kind e at ≡ false → key ≡ keySpan h kind at
+        → above ≡ risesTo (spanOf s last) (spanOf s key) → spec ≡ specKnown s h kind specs at
+        → (size : ℕ) → size ≡ entrySize s h kind at → to ≡ nextEntry s h kind e (at + size)
         → Reading s h kind e from before specs to key (rises && above) (known && spec)
-    unfolding rising lastKey all
-    reading-next to key above spec t k a b q =
+    unfolding rising lastSpan all keyAt
+    reading-next to key above spec t k a b size z q =
         let w = walk-entry s h kind e at t (r .real t) in
         let n = next-is s h kind e (at + entrySize s h kind at) in
-        rw (q, a, b, k) (record {
+        rw (q, z, a, b, k) (record {
           ends = r .ends ∙ ap (λ (w : Walk). w .end) w ∙ ap (λ (w : Walk). w .end) (n .same);
           order = r .order
-              ∙ ap (λ (w : Walk). rises && rising (keyAt s h kind) last (w .entries)) w
+              ∙ ap (λ (w : Walk). rises && rising (keyAt s h kind) (spanOf s last) (w .entries)) w
               ∙ and-assoc rises _ _
-              ∙ ap (λ (w : Walk). (rises && risesTo last (keyAt s h kind at)) && rising (keyAt s h kind) (keyAt s h kind at) (w .entries)) (n .same);
+              ∙ ap (λ (w : Walk). (rises && risesTo (spanOf s last) (keyAt s h kind at)) && rising (keyAt s h kind) (keyAt s h kind at) (w .entries)) (n .same);
           last-key = r .last-key
-              ∙ ap (λ (w : Walk). lastKey (keyAt s h kind) last (w .entries)) w
-              ∙ ap (λ (w : Walk). lastKey (keyAt s h kind) (keyAt s h kind at) (w .entries)) (n .same);
+              ∙ ap (λ (w : Walk). lastSpan (keySpan h kind) last (w .entries)) w
+              ∙ ap (λ (w : Walk). lastSpan (keySpan h kind) (keySpan h kind at) (w .entries)) (n .same);
           numbers = r .numbers
               ∙ ap (λ (w : Walk). known && all (specKnown s h kind specs) (w .entries)) w
               ∙ and-assoc known _ _
@@ -232,13 +247,16 @@ module _ (s : List ℕ) (h : Header) (kind : Kind) (e from : ℕ) (before : List
       pub read-end : at ≡ walkFrom s h kind e from .end
       read-end = sym (r .ends ∙ ap (λ (w : Walk). w .end) (walk-ended s h kind e at t))
 
-      pub read-order : rises ≡ rising (keyAt s h kind) before (walkFrom s h kind e from .entries)
+      pub read-order : rises ≡ rising (keyAt s h kind) (spanOf s before) (walkFrom s h kind e from .entries)
       unfolding rising
-      read-order = sym (r .order ∙ ap (λ (w : Walk). rises && rising (keyAt s h kind) last (w .entries)) (walk-ended s h kind e at t) ∙ and-true rises)
+      read-order =
+          sym
+          (r .order ∙ ap (λ (w : Walk). rises && rising (keyAt s h kind) (spanOf s last) (w .entries)) (walk-ended s h kind e at t)
+          ∙ and-true rises)
 
-      pub read-last : last ≡ lastKey (keyAt s h kind) before (walkFrom s h kind e from .entries)
-      unfolding lastKey
-      read-last = sym (r .last-key ∙ ap (λ (w : Walk). lastKey (keyAt s h kind) last (w .entries)) (walk-ended s h kind e at t))
+      pub read-last : last ≡ lastSpan (keySpan h kind) before (walkFrom s h kind e from .entries)
+      unfolding lastSpan
+      read-last = sym (r .last-key ∙ ap (λ (w : Walk). lastSpan (keySpan h kind) last (w .entries)) (walk-ended s h kind e at t))
 
       pub read-numbers : known ≡ all (specKnown s h kind specs) (walkFrom s h kind e from .entries)
       unfolding all
@@ -282,6 +300,22 @@ found-inside s h kind e at t x q = let same : at ≡ x = cc in rw (← same) (en
 
 pub end-no-entry : (at x : ℕ) → End at ≡ At x → ⊥
 end-no-entry at x q = let z : _≡_ {A = ℕ} 0 1 = cc in omega arith
+
+-- the entry that a search of a page tells ends within the page
+module _ (s : List ℕ) (h : Header) (kind : Kind) (e : ℕ) (sought : List ℕ) where
+  search-by : (turns at x : ℕ) → searched s h kind sought (walkBy turns s h kind e at) ≡ At x → x + entrySize s h kind x ≤ e
+  unfolding walkBy turn searchIn
+  search-by zero at x q = absurd (end-no-entry at x q)
+  search-by (suc turns) at x q =
+      by-test (ended s h kind e at) (λ t. absurd (end-no-entry at x (rw t at q)))
+      (λ t. by-test (padding s h kind at) (λ p. search-by turns _ x (rw (t, p) at q))
+      (λ p. by-test (sameBytes (keyAt s h kind at) sought)
+      (λ y. found-inside s h kind e at t x (rw (t, p, y) at q))
+      (λ y. search-by turns _ x (rw (t, p, y) at q))))
+
+  pub searched-inside : (at x : ℕ) → searched s h kind sought (walkFrom s h kind e at) ≡ At x → x + entrySize s h kind x ≤ e
+  unfolding walkFrom
+  searched-inside at x q = search-by _ at x q
 
 -- ---- the first entry
 

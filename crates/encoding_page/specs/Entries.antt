@@ -131,6 +131,17 @@ searchIn key sought (at ∷ entries) end = cond (sameBytes (key at) sought) (At 
 abbrev pub searched : List ℕ → Header → Kind → List ℕ → Walk → Search
 searched s h kind sought w = searchIn (keyAt s h kind) sought (w .entries) (w .end)
 
+-- ---- a key by its place
+
 -- The bytes that a span tells.
 abbrev pub spanOf : List ℕ → Span → List ℕ
 spanOf s span = partAt s (span .at) (span .size)
+
+-- Where the key of an entry stands.
+abbrev pub keySpan : Header → Kind → ℕ → Span
+keySpan h kind at = record { at = at + keyOffset kind; size = keySize h kind }
+
+-- Where the last key stands, or the key before where there is none.
+unfoldable pub lastSpan : (ℕ → Span) → Span → List ℕ → Span
+lastSpan key before [] = before
+lastSpan key before (at ∷ entries) = lastSpan key (key at) entries

@@ -203,7 +203,7 @@ pub fn walk(
 ) -> Walked
     ensures ends { λ r. ⌜ r .end ≡ spec.walkFrom (now (file .entry)) h kind end from .end ⌝ }
     ensures order { λ r. ⌜ r .rises ≡ spec.rising (spec.keyAt (now (file .entry)) h kind) (spec.spanOf (now (file .entry)) before) (spec.walkFrom (now (file .entry)) h kind end from .entries) ⌝ }
-    ensures last { λ r. ⌜ spec.spanOf (now (file .entry)) (r .last) ≡ spec.lastKey (spec.keyAt (now (file .entry)) h kind) (spec.spanOf (now (file .entry)) before) (spec.walkFrom (now (file .entry)) h kind end from .entries) ⌝ }
+    ensures last { λ r. ⌜ r .last ≡ spec.lastSpan (spec.keySpan h kind) before (spec.walkFrom (now (file .entry)) h kind end from .entries) ⌝ }
     ensures numbers { λ r. ⌜ r .«specs_known» ≡ spec.all (spec.specKnown (now (file .entry)) h kind specs) (spec.walkFrom (now (file .entry)) h kind end from .entries) ⌝ }
 {
     let mut last = before;

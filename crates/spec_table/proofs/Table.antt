@@ -3,16 +3,17 @@
 use mathlib.Core.Path.{_≡_, refl, sym, ap, _∙_}
 use mathlib.Core.Bool.{Bool, true, false, cond}
 use mathlib.Core.List.{List, [], _∷_, _++_}
-use Prim.Native.Nat.{ℕ, zero, suc, _+_, _-_, _≤_, _<_}
+use Prim.Native.Nat.{ℕ, zero, suc, _+_, _-_, _≤_, _<_, min}
 use native.Mathlib.Nat.{not-suc-le-zero}
 use native.Mathlib.Decide.{decLt}
 use native.Mathlib.Omega.{arith}
-use borrow.Author.Tests.{eqb-true}
-use lib.Dec.{eqb}
+use borrow.Author.Tests.{eqb-true, lt-ltb, le-ltb}
+use lib.Dec.{eqb, ltb}
 use lib.ListN.{length, getD, take, drop, length-drop, List·getD-eq-default}
 use lib.Seq.{getD-drop}
 use Rattle.parts.specs.Part.{partAt}
-use Rattle.spec_table.specs.Specs.{runOf, inFront, strings, specOf, countOf, startOf, beforeZero, lengthAt, Closed, SpecTable, RunSplit}
+use Rattle.parts.proofs.Laws.{partAt-inside}
+use Rattle.spec_table.specs.Specs.{runOf, inFront, strings, specOf, countOf, startOf, placeOf, beforeZero, lengthAt, Closed, SpecTable, RunSplit}
 use Rattle.spec_table.proofs.Laws.{still}
 
 -- ---- a byte in front of strings
@@ -99,7 +100,7 @@ none-left [] n h = refl
 none-left (b ∷ t) zero h = omega arith
 none-left (b ∷ t) (suc m) h = none-left t (cond (eqb b 0) m (suc m)) (omega (arith, still (eqb b 0) m))
 
-start-inside : (t : List ℕ) (n : ℕ) → startOf t n ≤ length t
+pub start-inside : (t : List ℕ) (n : ℕ) → startOf t n ≤ length t
 unfolding startOf
 start-inside [] n = omega arith
 start-inside (b ∷ t) zero = omega arith
@@ -153,6 +154,51 @@ module _ (t : List ℕ) (n at count : ℕ) (start : at ≡ startOf t n) (long : 
       go : Dec (n < countOf t) → specOf t n ≡ []
       go (yes h) = absurd (omega (arith, end, spec-closed t n h .inside))
       go (no h) = List·getD-eq-default (strings t) [] (omega (arith, strings-counted t))
+
+-- the strings before it, with their zero bytes, are the bytes before it
+front-run : (z : Bool) (b n : ℕ) (more : List (List ℕ)) → suc n < cond z 1 0 + length more
+    → length (runOf (take (suc n) (inFront z b more))) ≡ suc (length (runOf (take (cond z n (suc n)) more)))
+unfolding inFront runOf
+front-run true b n more h = refl
+front-run false b n [] h = absurd (omega arith)
+front-run false b n (string ∷ more) h = refl
+
+pub start-run : (t : List ℕ) (n : ℕ) → n < countOf t → length (runOf (take n (strings t))) ≡ startOf t n
+unfolding strings countOf startOf runOf
+start-run [] n h = absurd (not-suc-le-zero h)
+start-run (b ∷ t) zero h = refl
+start-run (b ∷ t) (suc m) h =
+    front-run (eqb b 0) b m (strings t) (omega (arith, strings-counted t))
+    ∙ ap suc (start-run t (cond (eqb b 0) m (suc m)) (omega (arith, still (eqb b 0) m)))
+
+pub spec-long : (t : List ℕ) (n : ℕ) → n < countOf t → length (specOf t n) ≡ lengthAt t (startOf t n)
+spec-long t n h =
+    ap length (sym (spec-part t n h)) ∙ partAt-inside t (startOf t n) (lengthAt t (startOf t n)) (omega (arith, spec-closed t n h .inside))
+
+-- where it stands
+module _ (t : List ℕ) (n : ℕ) where
+  pub place-there : n < countOf t → placeOf t n ≡ startOf t n
+  unfolding placeOf
+  place-there l = rw (lt-ltb n (countOf t) l)
+
+  pub place-past : countOf t ≤ n → placeOf t n ≡ 0
+  unfolding placeOf
+  place-past l = rw (le-ltb n (countOf t) l)
+
+module _ (t : List ℕ) (n at count : ℕ) (start : at ≡ startOf t n) (long : count ≡ lengthAt t at) where
+  pub string-at : at + count < length t → min at (length t) ≡ placeOf t n
+  string-at l = go (decLt n (countOf t))
+    where
+      go : Dec (n < countOf t) → min at (length t) ≡ placeOf t n
+      go (yes h) = omega (arith, place-there t n h)
+      go (no h) = absurd (omega (arith, end t n at count start long, spec-past t n (omega arith)))
+
+  pub string-nowhere : length t ≤ at + count → placeOf t n ≡ 0
+  string-nowhere l = go (decLt n (countOf t))
+    where
+      go : Dec (n < countOf t) → placeOf t n ≡ 0
+      go (yes h) = absurd (omega (arith, end t n at count start long, spec-closed t n h .inside))
+      go (no h) = place-past t n (omega arith)
 
 -- ---- a run of strings
 

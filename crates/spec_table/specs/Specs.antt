@@ -3,7 +3,7 @@ use mathlib.Core.Path.{_≡_}
 use mathlib.Core.Bool.{Bool, true, false, cond}
 use mathlib.Core.List.{List, [], _∷_, _++_}
 use Prim.Native.Nat.{ℕ, zero, suc, _+_, _<_}
-use lib.Dec.{eqb}
+use lib.Dec.{eqb, ltb}
 use lib.ListN.{length, getD, drop}
 use Rattle.parts.specs.Part.{byteAt, partAt}
 
@@ -38,6 +38,10 @@ unfoldable pub startOf : List ℕ → ℕ → ℕ
 startOf [] n = 0
 startOf (b ∷ t) zero = 0
 startOf (b ∷ t) (suc n) = suc (startOf t (cond (eqb b 0) n (suc n)))
+
+-- Where the part stands that is the spec with a number; the table's start where there is none.
+unfoldable pub placeOf : List ℕ → ℕ → ℕ
+placeOf t n = cond (ltb n (countOf t)) (startOf t n) 0
 
 -- The bytes before the first zero byte; all where there is none.
 unfoldable pub beforeZero : List ℕ → ℕ

@@ -105,10 +105,11 @@ pub fn length(table: &[u8], at: usize) -> usize
     end - at
 }
 
-// The string with a number, as the part of the table where it stands; empty where there is none. A string that is there ends
-// before the table does, since a zero byte closes it.
+// The string with a number, as the part of the table where it stands; empty, at the table's start, where there is none. A string
+// that is there ends before the table does, since a zero byte closes it.
 pub fn string(table: &[u8], number: u32) -> &[u8]
     ensures { λ r. ⌜ now r ≡ spec.specOf (now (table .entry)) number ⌝ }
+    ensures { λ r. ⌜ (r .ptr .0 ≡ table .entry .ptr .0) × (r .ptr .1 ≡ table .entry .ptr .1 + spec.placeOf (now (table .entry)) number) ⌝ }
 {
     let at = start(table, number);
     let count = length(table, at);

@@ -28,7 +28,7 @@ count-requires c κs = search needs
 
 check-pages-requires : tie.Need-check-pages-requires
 unfolding specsOf
-check-pages-requires c κs = c .count .ensures ∙ ap countOf (c .before .spec-table .ensures)
+check-pages-requires c κs = c .count .ensures ∙ ap countOf (c .before .spec-table .ensures .0)
 
 enum-told : tie.Need-enum-told
 enum-told c = search needs
@@ -47,7 +47,7 @@ enum-told-2 c = search needs
 
 check-pages-requires-2 : tie.Need-check-pages-requires-2
 unfolding specsOf
-check-pages-requires-2 c κs = c .before .before .before .count .ensures ∙ ap countOf (c .before .before .before .before .spec-table .ensures)
+check-pages-requires-2 c κs = c .before .before .before .count .ensures ∙ ap countOf (c .before .before .before .before .spec-table .ensures .0)
 
 returns-2 : tie.Need-returns-2
 unfolding fullCheck checkOf

@@ -18,7 +18,7 @@ part-requires c κs = search needs
 
 returns : tie.Need-returns
 unfolding firstKey
-returns c = rw (c .part .ensures, c .before .before .table .ensures, c .before .before .before .row-at .ensures)
+returns c = rw (c .part .ensures .0, c .before .before .table .ensures, c .before .before .before .row-at .ensures)
 
 pub first-key-spec : {M : Type 1} → statement M
 first-key-spec =

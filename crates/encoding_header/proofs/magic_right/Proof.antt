@@ -21,7 +21,7 @@ equal-requires c κs = search needs
 
 returns-2 : tie.Need-returns-2
 unfolding magicRight
-returns-2 c = rw (le-leb headerSize (length (c .before .before .before .before .before .args .file .now)) (c .before .before .before .if1 .left), c .equal .ensures, c .before .before .part .ensures)
+returns-2 c = rw (le-leb headerSize (length (c .before .before .before .before .before .args .file .now)) (c .before .before .before .if1 .left), c .equal .ensures, c .before .before .part .ensures .0)
 
 pub magic-right-spec : {M : Type 1} → statement M
 magic-right-spec =

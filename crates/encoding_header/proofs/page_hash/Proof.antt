@@ -26,7 +26,7 @@ part-requires c κs = search needs
 
 returns : tie.Need-returns
 unfolding pageHash
-returns c = rw (c .part .ensures, c .before .row-at .ensures, c .before .before .before .table .ensures)
+returns c = rw (c .part .ensures .0, c .before .row-at .ensures, c .before .before .before .table .ensures)
 
 pub page-hash-spec : {M : Type 1} → statement M
 page-hash-spec =

@@ -18,7 +18,7 @@ part-requires c κs = search needs
 
 returns : tie.Need-returns
 unfolding pageOf
-returns c = rw (c .part .ensures, c .before .page-size .ensures, c .before .before .table .ensures, c .before .before .before .page-at .ensures)
+returns c = rw (c .part .ensures .0, c .before .page-size .ensures, c .before .before .table .ensures, c .before .before .before .page-at .ensures)
 
 pub page-of-spec : {M : Type 1} → statement M
 page-of-spec =

@@ -1,55 +1,55 @@
 -- `encoding_lookup::encoding_keys`: by what the lookup tells.
 use mathlib.Core.Path.{sym, ap, _∙_}
 use borrow.Author.Needs.{needs}
-use Rattle.encoding_lookup.specs.Lookup.{contentOutcome}
-use Rattle.encoding_lookup.proofs.Laws.{run-told, run-absent, run-refused}
+use Rattle.encoding_lookup.specs.Lookup.{contentOutcome, toldValue, encodingKeys, encodingKeysAt}
+use Rattle.encoding_lookup.proofs.Inside.{content-inside, part-told}
 use Rattle.encoding_lookup.proofs.encoding_keys.Statement.{statement}
 use Rattle.encoding_lookup.proofs.encoding_keys.Tie as tie
 
-find-content-requires : tie.Need-find-content-requires
-find-content-requires c κs = search needs
-
-enum-known-c : tie.Need-enum-known-c
-enum-known-c c = search needs
-
-part-requires : tie.Need-part-requires
-part-requires c κs = search needs
-
-enum-told : tie.Need-enum-told
-enum-told c = search needs
-
-part-requires-2 : tie.Need-part-requires-2
-part-requires-2 c κs = search needs
-
-enum-told-2 : tie.Need-enum-told-2
-enum-told-2 c = search needs
-
-part-requires-3 : tie.Need-part-requires-3
-part-requires-3 c κs = search needs
+abbrev begun : tie.After-find-content → tie.Start
+begun c = c .before .before .before
 
 returns : tie.Need-returns
-unfolding contentOutcome
-returns c = c .part .ensures ∙ run-told _ _ _ _ _ _ (ap contentOutcome (sym (c .before .before .c .given .1)) ∙ c .before .before .before .before .find-content .ensures)
+unfolding contentOutcome toldValue encodingKeys encodingKeysAt
+returns c =
+    let found = c .before .before .before .before in
+    let a = begun found .args in
+    let told = ap contentOutcome (sym (c .before .before .c .given .1)) ∙ found .find-content .ensures in
+    let r = c .part .ensures in
+    let p = part-told (a .file .now) _ _ _ (a .file .ptr .1) _ told (content-inside (a .file .now) (a .key .now)) (r .0) (r .1 .1) in
+    (p .0, (r .1 .0, p .1))
 
 returns-2 : tie.Need-returns-2
-unfolding contentOutcome
-returns-2 c = c .part2 .ensures ∙ run-absent _ _ _ (ap contentOutcome (sym (c .before .enum-told .given .1)) ∙ c .before .before .before .find-content .ensures)
+unfolding contentOutcome toldValue encodingKeys encodingKeysAt
+returns-2 c =
+    let found = c .before .before .before in
+    let a = begun found .args in
+    let told = ap contentOutcome (sym (c .before .enum-told .given .1)) ∙ found .find-content .ensures in
+    let r = c .part2 .ensures in
+    let p = part-told (a .file .now) _ _ _ (a .file .ptr .1) _ told (content-inside (a .file .now) (a .key .now)) (r .0) (r .1 .1) in
+    (p .0, (r .1 .0, p .1))
 
 returns-3 : tie.Need-returns-3
-unfolding contentOutcome
-returns-3 c = c .part3 .ensures ∙ run-refused _ _ _ _ (ap contentOutcome (sym (c .before .enum-told2 .given .1)) ∙ c .before .before .before .find-content .ensures)
+unfolding contentOutcome toldValue encodingKeys encodingKeysAt
+returns-3 c =
+    let found = c .before .before .before in
+    let a = begun found .args in
+    let told = ap contentOutcome (sym (c .before .enum-told2 .given .1)) ∙ found .find-content .ensures in
+    let r = c .part3 .ensures in
+    let p = part-told (a .file .now) _ _ _ (a .file .ptr .1) _ told (content-inside (a .file .now) (a .key .now)) (r .0) (r .1 .1) in
+    (p .0, (r .1 .0, p .1))
 
 pub encoding-keys-spec : {M : Type 1} → statement M
 encoding-keys-spec =
     tie.close
     (tie.spec
-    find-content-requires
-    enum-known-c
-    part-requires
-    enum-told
-    part-requires-2
-    enum-told-2
-    part-requires-3
+    (λ c κs. search needs)
+    (λ c. search needs)
+    (λ c κs. search needs)
+    (λ c. search needs)
+    (λ c κs. search needs)
+    (λ c. search needs)
+    (λ c κs. search needs)
     returns
     returns-2
     returns-3)

@@ -21,14 +21,14 @@ add-if1 c = omega (arith, ends-inside _ _ _ _ (c .before .start .ensures) (c .le
 
 returns : tie.Need-returns
 unfolding specOutcome
-returns c = spec-refused _ _ _ _ _ _ (c .before .before .before .spec-table .ensures) (c .before .before .start .ensures) (c .before .length .ensures) (c .if1 .taken)
+returns c = spec-refused _ _ _ _ _ _ (c .before .before .before .spec-table .ensures .0) (c .before .before .start .ensures) (c .before .length .ensures) (c .if1 .taken)
 
 add-t7 : tie.Need-add-t7
 add-t7 c = search needs
 
 returns-2 : tie.Need-returns-2
 unfolding specOutcome
-returns-2 c = spec-found _ _ _ _ _ _ (c .before .before .before .spec-table .ensures) (c .before .before .start .ensures) (c .before .length .ensures) (c .if1 .left)
+returns-2 c = spec-found _ _ _ _ _ _ (c .before .before .before .spec-table .ensures .0) (c .before .before .start .ensures) (c .before .length .ensures) (c .if1 .left)
 
 pub spec-at-spec : {M : Type 1} → statement M
 spec-at-spec =

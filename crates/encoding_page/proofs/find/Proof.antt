@@ -45,7 +45,7 @@ equal-requires c κs = search needs
 returns : tie.Need-returns Inv-loop μ-loop
 unfolding keyAt
 returns c = let t = sym (c .before .before .before .before .before .ended .ensures) ∙ not-true _ (c .before .before .before .before .if1 .taken) in (
-  search-found _ _ _ _ _ _ _ (c .before .before .before .before .before .before .loop .inv) _ t (c .before .before .part .ensures ∙ rw (c .before .before .before .key-offset .ensures, c .before .before .before .before .before .before .before .before .key-size .ensures)) (sym (c .before .equal .ensures) ∙ c .if2 .taken),
+  search-found _ _ _ _ _ _ _ (c .before .before .before .before .before .before .loop .inv) _ t (c .before .before .part .ensures .0 ∙ rw (c .before .before .before .key-offset .ensures, c .before .before .before .before .before .before .before .before .key-size .ensures)) (sym (c .before .equal .ensures) ∙ c .if2 .taken),
   found-inside _ _ _ _ _ t,
 )
 
@@ -63,7 +63,7 @@ loop-less c = next-less _ _ _ _ _ _ _ (sym (c .before .before .before .before .b
 
 loop-again : tie.Need-loop-again Inv-loop μ-loop
 unfolding keyAt
-loop-again c = searching-next _ _ _ _ _ _ _ (c .before .before .before .before .before .before .before .before .loop .inv) _ _ (sym (c .before .before .before .before .before .before .before .ended .ensures) ∙ not-true _ (c .before .before .before .before .before .before .if1 .taken)) (c .before .before .before .before .part .ensures ∙ rw (c .before .before .before .before .before .key-offset .ensures, c .before .before .before .before .before .before .before .before .before .before .key-size .ensures)) (sym (c .before .before .before .equal .ensures) ∙ c .before .before .if2 .left) (c .next2 .ensures ∙ rw (c .before .entry-size .ensures))
+loop-again c = searching-next _ _ _ _ _ _ _ (c .before .before .before .before .before .before .before .before .loop .inv) _ _ (sym (c .before .before .before .before .before .before .before .ended .ensures) ∙ not-true _ (c .before .before .before .before .before .before .if1 .taken)) (c .before .before .before .before .part .ensures .0 ∙ rw (c .before .before .before .before .before .key-offset .ensures, c .before .before .before .before .before .before .before .before .before .before .key-size .ensures)) (sym (c .before .before .before .equal .ensures) ∙ c .before .before .if2 .left) (c .next2 .ensures ∙ rw (c .before .entry-size .ensures))
 
 returns-2 : tie.Need-returns-2 Inv-loop μ-loop
 returns-2 c = (search-end _ _ _ _ _ _ _ (c .before .before .loop .inv) (sym (c .before .ended .ensures) ∙ not-false _ (c .if1 .left)), λ x q. absurd (end-no-entry _ x q))

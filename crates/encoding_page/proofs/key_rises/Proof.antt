@@ -21,7 +21,7 @@ rises-requires : tie.Need-rises-requires
 rises-requires c κs = search needs
 
 returns : tie.Need-returns
-returns c = c .rises .ensures ∙ ap₂ risesTo (c .before .before .before .part .ensures) (c .before .part2 .ensures)
+returns c = c .rises .ensures ∙ ap₂ risesTo (c .before .before .before .part .ensures .0) (c .before .part2 .ensures .0)
 
 pub key-rises-spec : {M : Type 1} → statement M
 key-rises-spec =

@@ -36,7 +36,7 @@ all-zero-requires : tie.Need-all-zero-requires
 all-zero-requires c κs = search needs
 
 returns-4 : tie.Need-returns-4
-returns-4 c = padding-zero _ _ _ _ _ (c .before .before .before .before .before .before .enum-told2 .given .1) (c .before .before .before .before .before .spec-number .ensures) (c .before .before .before .before .if1 .left) (c .before .before .before .if2 .left) _ (c .all-zero .ensures ∙ ap allZero (c .before .part .ensures))
+returns-4 c = padding-zero _ _ _ _ _ (c .before .before .before .before .before .before .enum-told2 .given .1) (c .before .before .before .before .before .spec-number .ensures) (c .before .before .before .before .if1 .left) (c .before .before .before .if2 .left) _ (c .all-zero .ensures ∙ ap allZero (c .before .part .ensures .0))
 
 pub padding-spec : {M : Type 1} → statement M
 padding-spec =

@@ -36,7 +36,7 @@ equal-requires c κs = search needs
 
 returns-2 : tie.Need-returns-2
 unfolding keyAt
-returns-2 c = starts-first _ _ _ _ _ _ (c .before .before .before .before .before .before .next .ensures) _ _ _ (sym (c .before .before .before .before .before .ended .ensures) ∙ c .before .before .before .before .if1 .left) (c .before .part .ensures ∙ rw (c .before .before .before .key-offset .ensures, c .before .before .key-size .ensures)) (c .equal .ensures)
+returns-2 c = starts-first _ _ _ _ _ _ (c .before .before .before .before .before .before .next .ensures) _ _ _ (sym (c .before .before .before .before .before .ended .ensures) ∙ c .before .before .before .before .if1 .left) (c .before .part .ensures .0 ∙ rw (c .before .before .before .key-offset .ensures, c .before .before .key-size .ensures)) (c .equal .ensures)
 
 pub starts-with-spec : {M : Type 1} → statement M
 starts-with-spec =

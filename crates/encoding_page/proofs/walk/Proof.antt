@@ -4,13 +4,12 @@ use Prim.Native.Nat.{_-_}
 use native.Mathlib.Omega.{arith}
 use borrow.Author.Needs.{needs}
 use borrow.Author.Tests.{not-true, not-false}
-use Rattle.encoding_page.specs.Entries.{keyAt, spanOf}
 use Rattle.encoding_page.proofs.Laws.{key-inside, entry-inside, next-less, Reading, reading-first, reading-next, read-end, read-order, read-last, read-numbers}
 use Rattle.encoding_page.proofs.walk.Statement.{statement}
 use Rattle.encoding_page.proofs.walk.Tie as tie
 
 abbrev Inv-loop : tie.InvT-loop
-Inv-loop file h kind end from specs last₀ rises₀ specs-known₀ at₀ last rises specs-known at = Reading file h kind end from (spanOf file last₀) specs at (spanOf file last) rises specs-known
+Inv-loop file h kind end from specs last₀ rises₀ specs-known₀ at₀ last rises specs-known at = Reading file h kind end from last₀ specs at last rises specs-known
 
 abbrev μ-loop : tie.MeasureT-loop
 μ-loop file h kind end from specs last₀ rises₀ specs-known₀ at₀ last rises specs-known at = end - at
@@ -48,12 +47,22 @@ add-next c = omega (arith, c .entry-size .ensures, entry-inside _ _ _ _ _ (sym (
 next-requires-2 : tie.Need-next-requires-2 Inv-loop μ-loop
 next-requires-2 c κs = search needs
 
+abbrev turn : tie.After-next2 Inv-loop μ-loop → tie.Then1 Inv-loop μ-loop
+turn c = c .before .before .before .before .before .before .before
+
 loop-less : tie.Need-loop-less Inv-loop μ-loop
-loop-less c = next-less _ _ _ _ _ _ _ (sym (c .before .before .before .before .before .before .before .before .ended .ensures) ∙ not-true _ (c .before .before .before .before .before .before .before .if1 .taken)) (c .before .entry-size .ensures) (c .next2 .ensures)
+loop-less c =
+    next-less _ _ _ _ _ _ _ (sym (turn c .before .ended .ensures) ∙ not-true _ (turn c .if1 .taken)) (c .before .entry-size .ensures) (c .next2 .ensures)
 
 loop-again : tie.Need-loop-again Inv-loop μ-loop
-unfolding keyAt
-loop-again c = rw (c .before .before .before .before .both .ensures, c .before .before .both2 .ensures) (reading-next _ _ _ _ _ _ _ _ _ _ _ (c .before .before .before .before .before .before .before .before .before .loop .inv) _ _ _ _ (sym (c .before .before .before .before .before .before .before .before .ended .ensures) ∙ not-true _ (c .before .before .before .before .before .before .before .if1 .taken)) (rw (c .before .before .before .before .before .before .key-span .ensures .0, c .before .before .before .before .before .before .key-span .ensures .1)) (c .before .before .before .before .before .key-rises .ensures) (c .before .before .before .spec-known .ensures) (c .next2 .ensures ∙ rw (c .before .entry-size .ensures)))
+loop-again c =
+    let t = turn c in
+    let key = c .before .before .before .before .before .before .key-span in
+    rw (c .before .before .before .before .both .ensures, c .before .before .both2 .ensures)
+    (reading-next _ _ _ _ _ _ _ _ _ _ _ (t .before .before .loop .inv) _ _ _ _ (sym (t .before .ended .ensures) ∙ not-true _ (t .if1 .taken))
+    (λ i. record { at = key .ensures .0 i; size = key .ensures .1 i })
+    (c .before .before .before .before .before .key-rises .ensures) (c .before .before .before .spec-known .ensures)
+    _ (c .before .entry-size .ensures) (c .next2 .ensures))
 
 returns : tie.Need-returns Inv-loop μ-loop
 returns c = let over = sym (c .before .ended .ensures) ∙ not-false _ (c .if1 .left) in

@@ -16,8 +16,8 @@ returns : tie.Need-returns
 returns c =
     let a = c .before .before .args in
     let block = c .part .result .now in
-    let long : length block ≡ min 1024 (length (a .table .now) - a .at) = ap length (c .part .ensures) ∙ partAt-length (a .table .now) (a .at) 1024 in
-    (own-part (a .table .now) (a .at) 1024 block (search needs) (c .part .ensures), omega arith)
+    let long : length block ≡ min 1024 (length (a .table .now) - a .at) = ap length (c .part .ensures .0) ∙ partAt-length (a .table .now) (a .at) 1024 in
+    (own-part (a .table .now) (a .at) 1024 block (search needs) (c .part .ensures .0), omega arith)
 
 pub block-from-spec : {M : Type 1} → statement M
 block-from-spec = tie.close (tie.spec part-requires returns)

@@ -1,7 +1,8 @@
--- `spec_table::string`: there where its zero byte is.
-use mathlib.Core.Path.{sym, _∙_}
+-- `spec_table::string`: there where its zero byte is, from where it begins.
+use mathlib.Core.Path.{sym, ap, _∙_}
+use Prim.Native.Nat.{_+_}
 use native.Mathlib.Omega.{arith}
-use Rattle.spec_table.proofs.Table.{ends-inside, string-there, string-past}
+use Rattle.spec_table.proofs.Table.{ends-inside, string-there, string-past, string-at, string-nowhere}
 use borrow.Author.Needs.{needs}
 use Rattle.spec_table.proofs.string.Statement.{statement}
 use Rattle.spec_table.proofs.string.Tie as tie
@@ -12,10 +13,14 @@ start-requires c κs = search needs
 length-requires : tie.Need-length-requires
 length-requires c κs = search needs
 
+-- the place and length are known
+abbrev begun : tie.After-length → tie.Start
+begun n = n .before .before .before
+
 add-if1 : tie.Need-add-if1
 add-if1 c =
-    let a = c .before .before .before .args in
-    omega (arith, ends-inside (a .table .now) (a .number) (c .before .start .result) (c .length .result) (c .before .start .ensures) (c .length .ensures))
+    let a = begun c .args in
+    omega (arith, ends-inside (a .table .now) (a .number) _ _ (c .before .start .ensures) (c .length .ensures))
 
 part-requires : tie.Need-part-requires
 part-requires c κs = search needs
@@ -23,8 +28,13 @@ part-requires c κs = search needs
 returns : tie.Need-returns
 returns c =
     let n = c .before .before in
-    let a = n .before .before .before .args in
-    c .part .ensures ∙ string-there (a .table .now) (a .number) (n .before .start .result) (n .length .result) (n .before .start .ensures) (n .length .ensures) (c .before .if1 .taken)
+    let a = begun n .args in
+    let t = a .table .now in
+    let r = c .part .ensures in
+    let place = string-at t (a .number) _ _ (n .before .start .ensures) (n .length .ensures) (c .before .if1 .taken) in (
+      r .0 ∙ string-there t (a .number) _ _ (n .before .start .ensures) (n .length .ensures) (c .before .if1 .taken),
+      (r .1 .0, r .1 .1 ∙ ap (λ p. a .table .ptr .1 + p) place),
+    )
 
 part-requires-2 : tie.Need-part-requires-2
 part-requires-2 c κs = search needs
@@ -32,8 +42,12 @@ part-requires-2 c κs = search needs
 returns-2 : tie.Need-returns-2
 returns-2 c =
     let n = c .before .before in
-    let a = n .before .before .before .args in
-    c .part2 .ensures ∙ sym (string-past (a .table .now) (a .number) (n .before .start .result) (n .length .result) (n .before .start .ensures) (n .length .ensures) (c .before .if1 .left))
+    let a = begun n .args in
+    let t = a .table .now in
+    let r = c .part2 .ensures in (
+      r .0 ∙ sym (string-past t (a .number) _ _ (n .before .start .ensures) (n .length .ensures) (c .before .if1 .left)),
+      (r .1 .0, omega (arith, r .1 .1, string-nowhere t (a .number) _ _ (n .before .start .ensures) (n .length .ensures) (c .before .if1 .left))),
+    )
 
 pub string-spec : {M : Type 1} → statement M
 string-spec =
