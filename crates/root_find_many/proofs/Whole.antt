@@ -4,12 +4,12 @@ use mathlib.Core.List.{List, _++_}
 use Prim.Native.Nat.{ℕ, _+_, _*_, _/_, _≤_, _<_, min}
 use native.Mathlib.Omega.{arith}
 use lib.ListN.{length, take, drop, length-take, take-append-drop}
-use borrow.Author.Tests.{lt-ltb, le-ltb}
+use borrow.Author.Tests.{lt-ltb, le-ltb, ltb-false}
 use Rattle.parts.specs.Part.{partAt, partsFrom}
 use Rattle.parts.proofs.Parts.{parts-same, parts-of}
 use Rattle.refusal.specs.Check.{silent, refused}
 use Rattle.refusal.specs.Number.{output-short}
-use Rattle.refusal.proofs.Laws.{said, quiet, first-said, skip, after-quiet}
+use Rattle.refusal.proofs.Laws.{said, quiet, first-said, skip, after-quiet, first-left, first-right, silent-test}
 use Rattle.id_list.specs.Ids.{idCount, idAt, idsCheck}
 use Rattle.root_layout.specs.declared.Layout.{Layout}
 use Rattle.root_layout.specs.Header.{layoutOf}
@@ -36,6 +36,20 @@ module _ (s ids : List ℕ) (room : ℕ) where
       pub all-passed : idCount ids ≤ room / 20 → manyCheck s ids room ≡ silent
       unfolding manyCheck
       all-passed h = skip e (skip g (quiet output-short 0 refl (le-ltb room (20 * idCount ids) (omega arith))))
+
+-- what a silent check says
+module _ (s ids : List ℕ) (room : ℕ) (e : manyCheck s ids room ≡ silent) where
+  pub root-passes : rootCheck s ≡ silent
+  unfolding manyCheck
+  root-passes = first-left _ _ e
+
+  pub ids-pass : idsCheck ids ≡ silent
+  unfolding manyCheck
+  ids-pass = first-left _ _ (first-right _ _ e)
+
+  pub room-there : 20 * idCount ids ≤ room
+  unfolding manyCheck
+  room-there = ltb-false _ _ (silent-test _ _ _ (first-right _ _ (first-right _ _ e)))
 
 -- what the entries after all records are
 module _ (s ids old new : List ℕ) (l : Layout) (locale unwanted : ℕ) (e : rootCheck s ≡ silent) (g : l ≡ layoutOf s)

@@ -7,6 +7,7 @@ use Rattle.refusal.specs.Check.{Check, first}
 use Rattle.refusal.specs.Outcome.{Outcome, answered, absent, refusal, after}
 use Rattle.refusal.specs.Output.{roomCheck, filled}
 use Rattle.id_list.specs.Ids.{idCount, idAt, idsCheck}
+use Rattle.root_layout.specs.Header.{layoutOf, layoutValues}
 use Rattle.root_block.specs.Block.{keySize}
 use Rattle.root.specs.Root.{rootCheck}
 use Rattle.root.specs.Lookup.{lookupOf, keyOr}
@@ -34,6 +35,10 @@ manyBytes s ids locale unwanted = partsFrom (λ i. entryFor s (lookupOf s (idAt 
 -- The root's full check (rule R13), 12, 161, 13.
 unfoldable pub manyCheck : (s ids : List ℕ) → (room : ℕ) → Check
 manyCheck s ids room = first (rootCheck s) (first (idsCheck ids) (roomCheck (entrySize * idCount ids) room))
+
+-- What a file and a list that are judged so give: how the file's blocks are laid out.
+abbrev pub judgedOutcome : (s ids : List ℕ) → (room : ℕ) → Outcome
+judgedOutcome s ids room = after (manyCheck s ids room) (answered (layoutValues (layoutOf s)))
 
 -- The bytes written.
 abbrev pub manyOutcome : (s ids : List ℕ) → (room : ℕ) → Outcome

@@ -16,6 +16,7 @@ ghost use mathlib.Core.List.{[]};
 ghost use Prim.Native.Nat.{_+_, _*_, _<_, _≤_};
 ghost use lib.ListN.{length, drop};
 ghost use Rattle.refusal.specs.Check.{silent};
+ghost use Rattle.root_layout.specs.Header as header;
 ghost use Rattle.root_block.specs.Ids.{deltaAt};
 ghost use Rattle.root_block.specs.Block.{blockCheck};
 ghost use Rattle.root.specs.Root.{blocksBy, blocksCheck};
@@ -137,26 +138,36 @@ fn fill(file: &[u8], l: Layout, ids: &[u8], locale: u32, unwanted: u64, output: 
     put_blocks(file, l, ids, locale, unwanted, output);
 }
 
+// The root's check, 12, 161, 13, and how the blocks are laid out.
+fn judge_all(file: &[u8], ids: &[u8], room: usize) -> Opened
+    ensures { λ r. ⌜ header.outcome r ≡ spec.judgedOutcome (now (file .entry)) (now (ids .entry)) room ⌝ }
+{
+    let opened = judge(file);
+    if let Opened::Refused(_) = opened {
+        return opened;
+    }
+    if let Verdict::Refused(r) = id_list::check(ids) {
+        return Opened::Refused(r);
+    }
+    if room / ENTRY_SIZE < ids.len() / ID_SIZE {
+        return Opened::Refused(Refusal {
+            number: OUTPUT_SHORT,
+            place: 0,
+        });
+    }
+    opened
+}
+
 // Looks up each id of a list that rises, in the blocks that share a locale bit and no unwanted content bit.
 pub fn find_many(file: &[u8], ids: &[u8], locale: u32, unwanted: u64, output: &mut [u8]) -> Written
     ensures { λ r. ⌜ spec.outcome r ≡ spec.manyOutcome (now (file .entry)) (now (ids .entry)) (length (now (output .entry))) ⌝ }
     ensures { λ _. ⌜ now (output .exit) ≡ spec.manyOutput (now (file .entry)) (now (ids .entry)) locale unwanted (now (output .entry)) ⌝ }
 {
-    match judge(file) {
+    match judge_all(file, ids, output.len()) {
         Opened::Refused(r) => Written::Refused(r),
         Opened::Passed(l) => {
-            if let Verdict::Refused(r) = id_list::check(ids) {
-                return Written::Refused(r);
-            }
-            let n = ids.len() / ID_SIZE;
-            if output.len() / ENTRY_SIZE < n {
-                return Written::Refused(Refusal {
-                    number: OUTPUT_SHORT,
-                    place: 0,
-                });
-            }
             fill(file, l, ids, locale, unwanted, output);
-            Written::Bytes(ENTRY_SIZE * n)
+            Written::Bytes(ENTRY_SIZE * (ids.len() / ID_SIZE))
         }
     }
 }

@@ -6,10 +6,6 @@ use Rattle.id_list.proofs.Laws.{between-after, between-before}
 use borrow.Author.Needs.{needs}
 use Rattle.id_list.proofs.ahead.Statement.{statement}
 use Rattle.id_list.proofs.ahead.Tie as tie
-use Rattle.id_list.proofs.ahead.Reads as reads
-use Rattle.id_list.proofs.ahead.Lts as lts
-use Rattle.id_list.proofs.halve.Reads as halve-reads
-use Rattle.id_list.proofs.id_at.Reads as id-at-reads
 
 abbrev Inv-loop : tie.InvT-loop
 Inv-loop ids id from n low₀ step₀ low step = (step ≤ 2 * n) × Between ids id low n

@@ -9,10 +9,6 @@ use Rattle.id_list.proofs.Laws.{list-cut, list-whole, falls, holds}
 use borrow.Author.Needs.{needs}
 use Rattle.id_list.proofs.check.Statement.{statement}
 use Rattle.id_list.proofs.check.Tie as tie
-use Rattle.id_list.proofs.check.Reads as reads
-use Rattle.id_list.proofs.check.Lts as lts
-use Rattle.refusal.proofs.refuse.Reads as refuse-reads
-use Rattle.id_list.proofs.id_at.Reads as id-at-reads
 
 abbrev Inv-loop : tie.InvT-loop
 Inv-loop ids n i₀ i = (1 ≤ i) × (firstFrom (fallCheck ids) 1 (n - 1) ≡ firstFrom (fallCheck ids) i (n - i))

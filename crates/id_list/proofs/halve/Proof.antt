@@ -6,9 +6,6 @@ use Rattle.id_list.proofs.Laws.{between-after, between-before, between-
 use borrow.Author.Needs.{needs}
 use Rattle.id_list.proofs.halve.Statement.{statement}
 use Rattle.id_list.proofs.halve.Tie as tie
-use Rattle.id_list.proofs.halve.Reads as reads
-use Rattle.id_list.proofs.halve.Lts as lts
-use Rattle.id_list.proofs.id_at.Reads as id-at-reads
 
 abbrev Inv-loop : tie.InvT-loop
 Inv-loop ids id from to low₀ high₀ low high = Between ids id low high

@@ -4,9 +4,6 @@ use Rattle.id_list.proofs.Laws.{id-is}
 use borrow.Author.Needs.{needs}
 use Rattle.id_list.proofs.id_at.Statement.{statement}
 use Rattle.id_list.proofs.id_at.Tie as tie
-use Rattle.id_list.proofs.id_at.Reads as reads
-use Rattle.id_list.proofs.id_at.Lts as lts
-use Rattle.id_list.proofs.number_of.Reads as number-of-reads
 
 mul-at : tie.Need-mul-at
 mul-at c = search needs

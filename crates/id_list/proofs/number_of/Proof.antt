@@ -4,8 +4,6 @@ use Rattle.field.specs.Number.{bigAt}
 use borrow.Author.Needs.{needs}
 use Rattle.id_list.proofs.number_of.Statement.{statement}
 use Rattle.id_list.proofs.number_of.Tie as tie
-use Rattle.id_list.proofs.number_of.Reads as reads
-use Rattle.id_list.proofs.number_of.Lts as lts
 
 mul-result : tie.Need-mul-result
 mul-result c = search needs

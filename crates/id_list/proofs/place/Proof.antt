@@ -4,10 +4,6 @@ use Rattle.id_list.proofs.Laws.{between-all, between-from}
 use borrow.Author.Needs.{needs}
 use Rattle.id_list.proofs.place.Statement.{statement}
 use Rattle.id_list.proofs.place.Tie as tie
-use Rattle.id_list.proofs.place.Reads as reads
-use Rattle.id_list.proofs.place.Lts as lts
-use Rattle.id_list.proofs.ahead.Reads as ahead-reads
-use Rattle.id_list.proofs.id_at.Reads as id-at-reads
 
 sub-id-at : tie.Need-sub-id-at
 sub-id-at c = search needs

@@ -3,9 +3,6 @@ use Rattle.id_list.proofs.Laws.{stands-past, stands-there}
 use borrow.Author.Needs.{needs}
 use Rattle.id_list.proofs.stands.Statement.{statement}
 use Rattle.id_list.proofs.stands.Tie as tie
-use Rattle.id_list.proofs.stands.Reads as reads
-use Rattle.id_list.proofs.stands.Lts as lts
-use Rattle.id_list.proofs.id_at.Reads as id-at-reads
 
 returns : tie.Need-returns
 returns c = stands-past _ _ _ (c .if1 .taken)

@@ -7,9 +7,6 @@ use Rattle.root_block.proofs.Reckoned.{delta-is}
 use borrow.Author.Needs.{needs}
 use Rattle.root_find_many.proofs.delta_at.Statement.{statement}
 use Rattle.root_find_many.proofs.delta_at.Tie as tie
-use Rattle.root_find_many.proofs.delta_at.Reads as reads
-use Rattle.root_find_many.proofs.delta_at.Lts as lts
-use Rattle.root_block.proofs.ids.delta.Reads as delta-reads
 
 mul-at : tie.Need-mul-at
 mul-at c = search needs

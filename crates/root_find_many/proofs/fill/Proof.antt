@@ -3,10 +3,6 @@ use Rattle.root_find_many.proofs.Laid.{kept-on, kept-room, cleared-kept
 use borrow.Author.Needs.{needs}
 use Rattle.root_find_many.proofs.fill.Statement.{statement}
 use Rattle.root_find_many.proofs.fill.Tie as tie
-use Rattle.root_find_many.proofs.fill.Reads as reads
-use Rattle.root_find_many.proofs.fill.Lts as lts
-use Rattle.root_find_many.proofs.entries.clear.Reads as clear-reads
-use Rattle.root_find_many.proofs.put_blocks.Reads as put-blocks-reads
 
 clear-requires : tie.Need-clear-requires
 clear-requires c κs = search needs

@@ -10,12 +10,6 @@ use Rattle.root_find_many.proofs.Seen.{none-counts}
 use borrow.Author.Needs.{needs}
 use Rattle.root_find_many.proofs.put_block.Statement.{statement}
 use Rattle.root_find_many.proofs.put_block.Tie as tie
-use Rattle.root_find_many.proofs.put_block.Reads as reads
-use Rattle.root_find_many.proofs.put_block.Lts as lts
-use Rattle.root_block.proofs.Block.counts.Reads as counts-reads
-use Rattle.root_block.proofs.Block.read.Reads as read-reads
-use Rattle.root_block.proofs.deltas.Reads as deltas-reads
-use Rattle.root_find_many.proofs.put_records.Reads as put-records-reads
 
 abbrev start-at : tie.After-read → tie.Start
 start-at c = c .before .before .before .before .before

@@ -16,11 +16,6 @@ use Rattle.root_find_many.proofs.Seen.{Unseen, unseen-all, unseen-passe
 use borrow.Author.Needs.{needs}
 use Rattle.root_find_many.proofs.put_blocks.Statement.{statement}
 use Rattle.root_find_many.proofs.put_blocks.Tie as tie
-use Rattle.root_find_many.proofs.put_blocks.Reads as reads
-use Rattle.root_find_many.proofs.put_blocks.Lts as lts
-use Rattle.root_block.proofs.Block.read.Reads as read-reads
-use Rattle.root_block.proofs.Block.size.Reads as size-reads
-use Rattle.root_find_many.proofs.put_block.Reads as put-block-reads
 
 abbrev Inv-loop : tie.InvT-loop
 Inv-loop file l ids locale unwanted output₀ at₀ output at = Kept ids output₀ output × Walk file l (Unseen file l locale unwanted ids output) at

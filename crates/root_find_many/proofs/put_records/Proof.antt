@@ -11,11 +11,6 @@ use Rattle.root_find_many.proofs.Seen.{Passing, passing-none, passing-a
 use borrow.Author.Needs.{needs}
 use Rattle.root_find_many.proofs.put_records.Statement.{statement}
 use Rattle.root_find_many.proofs.put_records.Tie as tie
-use Rattle.root_find_many.proofs.put_records.Reads as reads
-use Rattle.root_find_many.proofs.put_records.Lts as lts
-use Rattle.root_block.proofs.Block.key_at.Reads as key-at-reads
-use Rattle.root_find_many.proofs.delta_at.Reads as delta-at-reads
-use Rattle.root_find_many.proofs.entries.put_record.Reads as put-record-reads
 
 abbrev Inv-loop : tie.InvT-loop
 Inv-loop file l at block deltas ids output₀ count last₀ guess₀ i₀ output last guess i =

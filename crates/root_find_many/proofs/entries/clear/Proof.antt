@@ -9,9 +9,6 @@ use Rattle.root_find_many.proofs.Laid.{blank, zeros-none, zeros-next, z
 use borrow.Author.Needs.{needs}
 use Rattle.root_find_many.proofs.entries.clear.Statement.{statement}
 use Rattle.root_find_many.proofs.entries.clear.Tie as tie
-use Rattle.root_find_many.proofs.entries.clear.Reads as reads
-use Rattle.root_find_many.proofs.entries.clear.Lts as lts
-use Rattle.parts.proofs.copy.Reads as copy-reads
 
 abbrev Inv-loop : tie.InvT-loop
 Inv-loop count output₀ zeros i₀ output i = (i ≤ count) × (output ≡ overlay output₀ 0 (partsFrom blank 0 i))

@@ -7,10 +7,6 @@ use Rattle.root_find_many.proofs.Laid.{entry-laid}
 use borrow.Author.Needs.{needs}
 use Rattle.root_find_many.proofs.entries.entry_of.Statement.{statement}
 use Rattle.root_find_many.proofs.entries.entry_of.Tie as tie
-use Rattle.root_find_many.proofs.entries.entry_of.Reads as reads
-use Rattle.root_find_many.proofs.entries.entry_of.Lts as lts
-use Rattle.parts.proofs.copy.Reads as copy-reads
-use Rattle.parts.proofs.part.Reads as part-reads
 
 array-write-entry : tie.Need-array-write-entry
 array-write-entry c = search needs

@@ -9,10 +9,6 @@ use Rattle.root_find_many.proofs.Laid.{Putting, putting-none, putting-n
 use borrow.Author.Needs.{needs}
 use Rattle.root_find_many.proofs.entries.put_equals.Statement.{statement}
 use Rattle.root_find_many.proofs.entries.put_equals.Tie as tie
-use Rattle.root_find_many.proofs.entries.put_equals.Reads as reads
-use Rattle.root_find_many.proofs.entries.put_equals.Lts as lts
-use Rattle.id_list.proofs.stands.Reads as stands-reads
-use Rattle.parts.proofs.copy.Reads as copy-reads
 
 abbrev Inv-loop : tie.InvT-loop
 Inv-loop entry ids id from output₀ i₀ output i = Putting ids entry id from i output₀ output

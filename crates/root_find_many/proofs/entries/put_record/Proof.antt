@@ -10,12 +10,6 @@ use Rattle.root_find_many.proofs.Laid.{kept-same, turned-none, turned-f
 use borrow.Author.Needs.{needs}
 use Rattle.root_find_many.proofs.entries.put_record.Statement.{statement}
 use Rattle.root_find_many.proofs.entries.put_record.Tie as tie
-use Rattle.root_find_many.proofs.entries.put_record.Reads as reads
-use Rattle.root_find_many.proofs.entries.put_record.Lts as lts
-use Rattle.id_list.proofs.place.Reads as place-reads
-use Rattle.id_list.proofs.stands.Reads as stands-reads
-use Rattle.root_find_many.proofs.entries.entry_of.Reads as entry-of-reads
-use Rattle.root_find_many.proofs.entries.put_equals.Reads as put-equals-reads
 
 abbrev start-at : tie.After-place → tie.Start
 start-at c = c .before .before .before .before
