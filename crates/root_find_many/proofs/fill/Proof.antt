@@ -1,4 +1,5 @@
 -- `root_find_many::fill`: entries of zeros, then the entries of the blocks.
+use mathlib.Core.Path.{_∙_}
 use Rattle.root_find_many.proofs.Laid.{kept-on, kept-room, cleared-kept, cleared-held}
 use borrow.Author.Needs.{needs}
 use Rattle.root_find_many.proofs.fill.Statement.{statement}
@@ -19,7 +20,11 @@ put-blocks-requires c κs =
     )
 
 same-length : tie.Need-same-length
-same-length c = search needs
+same-length c =
+    let cleared = c .before .before .before .before .before .before in
+    let start = cleared .before .before .before .before .before in
+    let kept = cleared-kept (start .args .ids .now) (start .args .output .now) _ (start .pre .1 .1) (cleared .clear .ensures) in
+    c .before .before .put-blocks .ensures .0 .size ∙ kept .size
 
 returns : tie.Need-returns
 returns c =

@@ -64,7 +64,7 @@ returns c =
     (sym (after-said _ e), sym (ap (λ t. filled t (manyBytes s (a .ids .now) (a .locale) (a .unwanted)) (a .output .now)) e))
 
 same-length : tie.Need-same-length
-same-length c = search needs
+same-length c = c .before .before .fill .ensures .0 .size
 
 returns-2 : tie.Need-returns-2
 unfolding filled outcome

@@ -58,7 +58,7 @@ put-records-requires c κs =
     )
 
 same-length : tie.Need-same-length
-same-length c = search needs
+same-length c = c .before .before .put-records .ensures .0 .size
 
 returns-2 : tie.Need-returns-2
 returns-2 c =

@@ -66,7 +66,7 @@ put-equals-requires : tie.Need-put-equals-requires
 put-equals-requires c κs = search needs
 
 same-length : tie.Need-same-length
-same-length c = search needs
+same-length c = c .before .before .put-equals .ensures .0 .size
 
 returns-3 : tie.Need-returns-3
 returns-3 c =
