@@ -20,5 +20,6 @@ pub record Between (ids : List ℕ) (id low high : ℕ) : Type 0 where
 abbrev pub Placed : (ids : List ℕ) → (id place : ℕ) → Type 0
 Placed ids id place = Between ids id place place
 
+-- No id is below one before it: what the check of a list gives (proofs/Laws.antt).
 pub record Rising (ids : List ℕ) : Type 0 where
   pub rise : (i j : ℕ) → i ≤ j → j < idCount ids → idAt ids i ≤ idAt ids j

@@ -15,6 +15,7 @@ use Rattle.root_block.specs.Block.{blockOf, deltasOf, blockCheck, counts}
 use Rattle.root.specs.Lookup.{Record, recordsFrom, wanted, foundIn}
 use Rattle.root_find_many.specs.Many.{entrySize, entryFor}
 
+-- Entry j of the output.
 abbrev pub entryAt : List ℕ → ℕ → List ℕ
 entryAt out j = partAt out (j * entrySize) entrySize
 

@@ -16,16 +16,17 @@ ghost use mathlib.Core.List.{[]};
 ghost use Prim.Native.Nat.{_+_, _*_, _<_, _≤_};
 ghost use lib.ListN.{length, drop};
 ghost use Rattle.refusal.specs.Check.{silent};
+ghost use Rattle.id_list.specs.Place.{Rising};
 ghost use Rattle.root_layout.specs.Header as header;
 ghost use Rattle.root_block.specs.Ids.{deltaAt};
 ghost use Rattle.root_block.specs.Block.{blockCheck};
 ghost use Rattle.root.specs.Root.{blocksBy, blocksCheck};
 ghost use Rattle.root.specs.Lookup.{recordsBy};
 ghost use Rattle.root_find_many.specs.Many as spec;
-ghost use Rattle.id_list.specs.Place.{Rising};
 ghost use Rattle.root_find_many.specs.Entries.{Room, Held, Kept, entryBy, BlockAt, BlockPut, CountedPut};
 
 mod entries;
+
 // The bytes of an entry in the output.
 pub const ENTRY_SIZE: usize = 20;
 

@@ -42,9 +42,10 @@ fill-requires c κs =
     let l = c .before .before in
     let a = start-at (l .before .before) .args in
     let s = a .file .now in
+    let ids = a .ids .now in
     let p = passed l in
     let e = p .0 in
-    (root-passed s _ (root-passes s (a .ids .now) _ e) (p .1), (ids-rise (a .ids .now) (ids-pass s (a .ids .now) _ e), record { room = room-there s (a .ids .now) _ e }))
+    (root-passed s _ (root-passes s ids _ e) (p .1), (ids-rise ids (ids-pass s ids _ e), record { room = room-there s ids _ e }))
 
 mul-t16 : tie.Need-mul-t16
 mul-t16 c =
