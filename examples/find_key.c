@@ -80,7 +80,7 @@ static int find(const char *name, struct bytes index, const char *text) {
     if (dwarnizza_index_check(index.data, index.length, answer) == DWARNIZZA_REFUSED)
         return refused(name, answer);
     uint64_t offset_width = answer[1];
-    uint8_t key_length = (uint8_t)answer[2];
+    uint32_t key_length = (uint32_t)answer[2];
 
     uint8_t key[16];
     const uint8_t *digits = (const uint8_t *)text;

@@ -5,7 +5,8 @@
  * Arguments. First come the inputs: bytes as a pointer and a length, and
  * numbers. Then come the outputs, and last the answer, eight 64-bit words. A
  * length counts bytes and may be 0; then its pointer may be NULL. No other
- * pointer is NULL, and no output overlaps another argument.
+ * pointer is NULL, and no output overlaps another argument. No number has fewer
+ * than 32 bits, so that one outside its bounds is refused and not cut.
  *
  * Result. DWARNIZZA_ANSWERED, DWARNIZZA_ABSENT or DWARNIZZA_REFUSED. Each call
  * writes all eight words of the answer; a word that the case at hand does not
@@ -69,10 +70,10 @@ enum {
     X(DWARNIZZA_INDEX_PADDING, 7, "padding not zero", "page") \
     X(DWARNIZZA_INDEX_ORDER, 8, "key not above the one before", "entry") \
     X(DWARNIZZA_LAST_KEY, 9, "stored last key wrong", "page") \
-    X(DWARNIZZA_INDEX_KEY_LENGTH, 10, "sought key not of the index's key length", "") \
+    X(DWARNIZZA_INDEX_KEY_LENGTH, 10, "key not of the index's key length", "") \
     X(DWARNIZZA_SETTINGS, 11, "settings wrong", "") \
     X(DWARNIZZA_LIST_LENGTH, 12, "list not whole entries", "") \
-    X(DWARNIZZA_OUTPUT_SHORT, 13, "output shorter than the file or list to be written", "") \
+    X(DWARNIZZA_OUTPUT_SHORT, 13, "output shorter than what is to be written", "") \
     X(DWARNIZZA_NOT_BLTE, 20, "envelope under 8 bytes, or not BLTE", "") \
     X(DWARNIZZA_ENVELOPE_HEADER, 21, "envelope's header size, flags or chunk count wrong, or header past the end", "") \
     X(DWARNIZZA_CHUNK_SIZES, 22, "an empty chunk, or sizes not adding up to the rest", "") \
@@ -307,8 +308,8 @@ uint32_t dwarnizza_index_list(const uint8_t *index, size_t index_len,
  * entry whose key is not above the one before; 13 where output_len is below
  * the length of the file.
  */
-uint32_t dwarnizza_index_write(uint8_t version, uint8_t offset_width,
-                               uint8_t key_length, const uint8_t *list,
+uint32_t dwarnizza_index_write(uint32_t version, uint32_t offset_width,
+                               uint32_t key_length, const uint8_t *list,
                                size_t list_len, uint8_t *output,
                                size_t output_len, uint64_t answer[8]);
 
@@ -318,9 +319,10 @@ uint32_t dwarnizza_index_write(uint8_t version, uint8_t offset_width,
  * Answered: answer[0] is the length.
  * Refused: 11, 12, 4 and 8 as dwarnizza_index_write refuses.
  */
-uint32_t dwarnizza_index_written_length(uint8_t version, uint8_t offset_width,
-                                        uint8_t key_length, const uint8_t *list,
-                                        size_t list_len, uint64_t answer[8]);
+uint32_t dwarnizza_index_written_length(uint32_t version, uint32_t offset_width,
+                                        uint32_t key_length,
+                                        const uint8_t *list, size_t list_len,
+                                        uint64_t answer[8]);
 
 /*
  * One entry of a list, of K + 4 + W bytes: key, encoded size and location, the
@@ -334,8 +336,8 @@ uint32_t dwarnizza_index_written_length(uint8_t version, uint8_t offset_width,
  * offset of more than W bytes); 10 where key_len is not K; 13 where output_len
  * is below K + 4 + W.
  */
-uint32_t dwarnizza_list_put(uint8_t version, uint8_t offset_width,
-                            uint8_t key_length, const uint8_t *key,
+uint32_t dwarnizza_list_put(uint32_t version, uint32_t offset_width,
+                            uint32_t key_length, const uint8_t *key,
                             size_t key_len, uint32_t size, uint32_t archive,
                             uint64_t offset, uint8_t *output, size_t output_len,
                             uint64_t answer[8]);
@@ -644,7 +646,7 @@ uint32_t dwarnizza_resolve(const uint8_t *root, size_t root_len,
  * 61, with the place of the first character that is no hex digit, from 0.
  */
 uint32_t dwarnizza_key_text(const uint8_t *text, size_t text_len,
-                            uint8_t key_length, uint8_t key[16],
+                            uint32_t key_length, uint8_t key[16],
                             uint64_t answer[8]);
 
 /*

@@ -2,6 +2,7 @@
 use crate::answer::entry_words;
 use crate::answer::layout_words;
 use crate::answer::refused;
+use crate::narrow::narrow_settings;
 use entries::Listed;
 use index_layout::FOOTER_SIZE;
 use index_layout::HASH_LENGTH;
@@ -11,7 +12,6 @@ use list_entry::Put;
 use listing::ListingText;
 use lookup::Answer;
 use lookup::Bounded;
-use writer::Settings;
 use writer::Written;
 ghost use mathlib.Core.Path.{_≡_};
 ghost use lib.ListN.{length};
@@ -209,9 +209,9 @@ pub extern "C" fn dwarnizza_index_bound(index: &[u8], answer: &mut [u64; 8]) -> 
 // Writes the index of a list: the bytes written.
 #[no_mangle]
 pub extern "C" fn dwarnizza_index_write(
-    version: u8,
-    offset_width: u8,
-    key_length: u8,
+    version: u32,
+    offset_width: u32,
+    key_length: u32,
     list: &[u8],
     output: &mut [u8],
     answer: &mut [u64; 8],
@@ -220,11 +220,7 @@ pub extern "C" fn dwarnizza_index_write(
     ensures { λ _. ⌜ now (output .exit) ≡ filled (writeCheck (settingsFrom version «offset_width» «key_length») (now (list .entry)) (length (now (output .entry)))) (fileOf (now (list .entry)) (layoutFor (settingsFrom version «offset_width» «key_length») (now (list .entry)))) (now (output .entry)) ⌝ }
     ensures { λ _. ⌜ now (answer .exit) ≡ answerWords (writeOutcome (settingsFrom version «offset_width» «key_length») (now (list .entry)) (length (now (output .entry)))) ⌝ }
 {
-    let settings = Settings {
-        version,
-        offset_width,
-        key_length,
-    };
+    let settings = narrow_settings(version, offset_width, key_length);
     match writer::write(settings, list, output) {
         Written::Refused(r) => refused(r, answer),
         Written::File(length) => {
@@ -237,20 +233,16 @@ pub extern "C" fn dwarnizza_index_write(
 // The length of the file that a list gives.
 #[no_mangle]
 pub extern "C" fn dwarnizza_index_written_length(
-    version: u8,
-    offset_width: u8,
-    key_length: u8,
+    version: u32,
+    offset_width: u32,
+    key_length: u32,
     list: &[u8],
     answer: &mut [u64; 8],
 ) -> u32
     ensures { λ r. ⌜ r ≡ result (lengthOutcome (settingsFrom version «offset_width» «key_length») (now (list .entry))) ⌝ }
     ensures { λ _. ⌜ now (answer .exit) ≡ answerWords (lengthOutcome (settingsFrom version «offset_width» «key_length») (now (list .entry))) ⌝ }
 {
-    let settings = Settings {
-        version,
-        offset_width,
-        key_length,
-    };
+    let settings = narrow_settings(version, offset_width, key_length);
     match writer::written_length(settings, list) {
         Written::Refused(r) => refused(r, answer),
         Written::File(length) => {
@@ -263,9 +255,9 @@ pub extern "C" fn dwarnizza_index_written_length(
 // Puts one entry of a list: the bytes written.
 #[no_mangle]
 pub extern "C" fn dwarnizza_list_put(
-    version: u8,
-    offset_width: u8,
-    key_length: u8,
+    version: u32,
+    offset_width: u32,
+    key_length: u32,
     key: &[u8],
     size: u32,
     archive: u32,
@@ -277,11 +269,7 @@ pub extern "C" fn dwarnizza_list_put(
     ensures { λ _. ⌜ now (output .exit) ≡ filled (putCheck (settingsFrom version «offset_width» «key_length») (now (key .entry)) archive offset (length (now (output .entry)))) (entryBytes «offset_width» (now (key .entry)) size (locationOf archive offset)) (now (output .entry)) ⌝ }
     ensures { λ _. ⌜ now (answer .exit) ≡ answerWords (putOutcome (settingsFrom version «offset_width» «key_length») (now (key .entry)) archive offset (length (now (output .entry)))) ⌝ }
 {
-    let settings = Settings {
-        version,
-        offset_width,
-        key_length,
-    };
+    let settings = narrow_settings(version, offset_width, key_length);
     match list_entry::put_entry(settings, key, size, archive, offset, output) {
         Put::Refused(r) => refused(r, answer),
         Put::Bytes(bytes) => {

@@ -1,5 +1,6 @@
 // Keys.
 use crate::answer::refused;
+use crate::narrow::narrow;
 use parts::copy;
 use parts::part;
 use refusal::Verdict;
@@ -13,7 +14,7 @@ ghost use Rattle.dwarnizza.specs.Keys.{textOutcome};
 #[no_mangle]
 pub extern "C" fn dwarnizza_key_text(
     text: &[u8],
-    length: u8,
+    length: u32,
     key: &mut [u8; 16],
     answer: &mut [u64; 8],
 ) -> u32
@@ -21,14 +22,15 @@ pub extern "C" fn dwarnizza_key_text(
     ensures { λ _. ⌜ now (key .exit) ≡ filled (textCheck (now (text .entry)) length) (textBytes (now (text .entry))) (now (key .entry)) ⌝ }
     ensures { λ _. ⌜ now (answer .exit) ≡ answerWords (textOutcome (now (text .entry)) length) ⌝ }
 {
-    let read = key_text::from_text(text, length);
+    let k = narrow(length);
+    let read = key_text::from_text(text, k);
     let verdict = read.verdict;
     let bytes = read.bytes;
     match verdict {
         Verdict::Refused(r) => refused(r, answer),
         Verdict::Passed => {
-            copy(part(&bytes, 0, length as usize), key, 0);
-            *answer = [length as u64, 0, 0, 0, 0, 0, 0, 0];
+            copy(part(&bytes, 0, k as usize), key, 0);
+            *answer = [k as u64, 0, 0, 0, 0, 0, 0, 0];
             0
         }
     }

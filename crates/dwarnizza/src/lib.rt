@@ -7,5 +7,6 @@ pub mod file_numbers;
 pub mod hash;
 pub mod indexes;
 pub mod keys;
+mod narrow;
 pub mod roots;
 pub mod worklists;

@@ -224,7 +224,7 @@ fn an_index_of_other_keys() {
     let mut arguments = build("root-v1", "nine.index");
     arguments.extend(["417", "9001"]);
     let lines = "refused\t417\t-\t10\t0\nabsent\t9001\tencoding\t-\n";
-    let words = "nine.index: refused 10: sought key not of the index's key length";
+    let words = "nine.index: refused 10: key not of the index's key length";
     expect(&folder, &arguments, 2, lines, words);
 }
 

@@ -84,6 +84,7 @@ pub fn md5_finish((words, pending, count): &State, digest: &mut [u8; 16]) -> Ans
 
 pub fn key_text(text: &[u8], key_length: u8, key: &mut [u8; 16]) -> Answered {
     let (data, length) = (text.as_ptr(), text.len());
+    let key_length = key_length.into();
     // SAFETY: pointer and length are those of one slice.
     answered(|answer| unsafe { ffi::dwarnizza_key_text(data, length, key_length, key, answer) })
 }
@@ -137,9 +138,9 @@ pub fn index_written_length(settings: Settings, list: &[u8]) -> Answered {
     // SAFETY: pointer and length are those of one slice.
     answered(|answer| unsafe {
         ffi::dwarnizza_index_written_length(
-            version,
-            offset_width,
-            key_length,
+            version.into(),
+            offset_width.into(),
+            key_length.into(),
             list.as_ptr(),
             list.len(),
             answer,
@@ -156,9 +157,9 @@ pub fn index_write(settings: Settings, list: &[u8], output: &mut [u8]) -> Answer
     // SAFETY: each pointer and length are those of one slice, and no other borrows the output.
     answered(|answer| unsafe {
         ffi::dwarnizza_index_write(
-            version,
-            offset_width,
-            key_length,
+            version.into(),
+            offset_width.into(),
+            key_length.into(),
             list.as_ptr(),
             list.len(),
             output.as_mut_ptr(),
@@ -178,9 +179,9 @@ pub fn list_put(
     // SAFETY: each pointer and length are those of one slice, and no other borrows the output.
     answered(|answer| unsafe {
         ffi::dwarnizza_list_put(
-            settings.version,
-            settings.offset_width,
-            settings.key_length,
+            settings.version.into(),
+            settings.offset_width.into(),
+            settings.key_length.into(),
             key.as_ptr(),
             key.len(),
             size,

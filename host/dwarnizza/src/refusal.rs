@@ -126,16 +126,12 @@ const MEANINGS: [(Reason, &str, Place); 41] = {
         (IndexPadding, "padding not zero", Page),
         (IndexOrder, "key not above the one before", Entry),
         (LastKey, "stored last key wrong", Page),
-        (
-            IndexKeyLength,
-            "sought key not of the index's key length",
-            Nothing,
-        ),
+        (IndexKeyLength, "key not of the index's key length", Nothing),
         (Settings, "settings wrong", Nothing),
         (ListLength, "list not whole entries", Nothing),
         (
             OutputShort,
-            "output shorter than the file or list to be written",
+            "output shorter than what is to be written",
             Nothing,
         ),
         (NotBlte, "envelope under 8 bytes, or not BLTE", Nothing),
@@ -442,7 +438,7 @@ mod tests {
         );
         assert_eq!(
             said(Reason::IndexKeyLength, 0, Some(Link::Index)),
-            "refused 10 by the index: sought key not of the index's key length"
+            "refused 10 by the index: key not of the index's key length"
         );
         assert_eq!(
             said(Reason::BlockCut, 12, Some(Link::Root)),

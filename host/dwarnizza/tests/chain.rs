@@ -179,7 +179,7 @@ fn location(id: u32) -> u64 {
 
 /// An index of the first encoding keys of these ids.
 fn index_of(settings: Settings, ids: impl IntoIterator<Item = u32>) -> IndexFile {
-    let width = usize::from(settings.offset_width);
+    let width = settings.offset_width as usize;
     let entry = |id| {
         let location = location(id).to_be_bytes();
         let rest = [&size(id).to_be_bytes(), &location[8 - width..]].concat();
@@ -282,7 +282,7 @@ impl ByHand {
     const KEY_LEN: usize = 9;
 
     fn new() -> Self {
-        let settings = settings(Self::KEY_LEN as u8, 5);
+        let settings = settings(Self::KEY_LEN as u32, 5);
         Self {
             blocks: blocks_of(5..=7),
             encoding: encoding_of([16, Self::KEY_LEN], 5..=6),
@@ -386,7 +386,7 @@ impl ByHand {
                 ),
             ]);
         }
-        for key_length in (1..=16).filter(|&length| usize::from(length) != Self::KEY_LEN) {
+        for key_length in (1..=16).filter(|&length| length as usize != Self::KEY_LEN) {
             let other = index_of(settings(key_length, 5), [5]).bytes;
             indexes.push((refused(Reason::IndexKeyLength), other));
         }
@@ -497,7 +497,7 @@ fn key_sizes() {
             for index_key_len in 1..=16 {
                 let keys = both_resized(&encoding_key, index_key_len);
                 let entries: ByKey = keys.map(entry).into();
-                let index = index_file(settings(index_key_len as u8, 4), &entries);
+                let index = index_file(settings(index_key_len as u32, 4), &entries);
                 let files = [&root[..], &encoding, &index.bytes];
                 assert!(passes(files));
                 let answer = compare(files, anywhere(ID));
@@ -532,7 +532,7 @@ fn the_first_encoding_key() {
             let index = |keys: &[Vec<u8>]| {
                 let entries = keys.iter().zip(0u64..);
                 let entries = entries.map(|(key, place)| (key.clone(), place.to_be_bytes().into()));
-                index_file(settings(key_len as u8, 4), &entries.collect()).bytes
+                index_file(settings(key_len as u32, 4), &entries.collect()).bytes
             };
             let answer = |index: &[u8]| compare([&root, &encoding, index], anywhere(ID)).unwrap();
             for index in [index(&keys), index(&keys[..1])] {

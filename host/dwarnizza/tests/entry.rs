@@ -149,15 +149,15 @@ fn a_hundred_thousand_entries_of_lists() {
     let mut tally = Tally::new("entries of lists");
     for _ in 0..150_000 {
         let mut settings = Settings {
-            version: random.up_to(1) as u8,
-            offset_width: 4 + random.up_to(2) as u8,
-            key_length: 1 + random.up_to(15) as u8,
+            version: random.up_to(1) as u32,
+            offset_width: 4 + random.up_to(2) as u32,
+            key_length: 1 + random.up_to(15) as u32,
         };
         match random.up_to(30) {
-            0 => settings.version = random.word() as u8,
-            1 => settings.offset_width = random.word() as u8,
-            2 => settings.key_length = random.word() as u8,
-            3 => settings.offset_width = 3 + 4 * random.up_to(1) as u8,
+            0 => settings.version = random.up_to(255) as u32,
+            1 => settings.offset_width = random.up_to(255) as u32,
+            2 => settings.key_length = random.up_to(255) as u32,
+            3 => settings.offset_width = 3 + 4 * random.up_to(1) as u32,
             _ => {}
         }
         let parts = random_parts(&mut random, settings);

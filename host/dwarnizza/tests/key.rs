@@ -10,7 +10,7 @@ use random::Random;
 /// The key of a text by the library, after seeing that the second program gives the same.
 #[track_caller]
 fn compare(text: &[u8], key_length: u8) -> Result<Vec<u8>, Refusal> {
-    let answer = second::key::from_text(text, key_length).map_err(in_library_terms);
+    let answer = second::key::from_text(text, key_length.into()).map_err(in_library_terms);
     let key = Key::from_text(text, key_length);
     let bytes = key.map(|key| key.as_bytes().to_vec());
     assert_eq!(bytes, answer, "the text is {}", text.escape_ascii());

@@ -156,7 +156,10 @@ fn numbers() {
                 list.extend(&location.to_be_bytes()[8 - usize::from(width)..]);
                 text += &format!("{key:02x} {size} {}\n", shown(width, location));
             }
-            expect_text(&IndexFile::new(settings(1, width), &list).bytes, &text);
+            expect_text(
+                &IndexFile::new(settings(1, width.into()), &list).bytes,
+                &text,
+            );
         }
     }
 }

@@ -131,7 +131,7 @@ fn every_setting() {
         offset_width,
         key_length,
     };
-    for value in 0..=u8::MAX {
+    for value in 0..=255 {
         for (settings, allowed) in [
             (with(value, 4, 16), value <= 1),
             (with(1, value, 16), (4..=6).contains(&value)),
@@ -273,7 +273,7 @@ fn spoil(random: &mut Random, settings: &mut Settings, list: &mut Vec<u8>) -> &'
     if random.up_to(5) == 0 {
         kind = "settings";
         let most = [20, 255][random.up_to(1)];
-        let value = random.up_to(most) as u8;
+        let value = random.up_to(most) as u32;
         match random.up_to(2) {
             0 => settings.version = value,
             1 => settings.offset_width = value,

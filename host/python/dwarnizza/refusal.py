@@ -66,7 +66,7 @@ class Refusal(Exception):
     >>> print(Refusal(8, 3))
     refused 8 at 3: key not above the one before (entry 3)
     >>> print(Refusal(10, link=Link.INDEX))
-    refused 10 by the index: sought key not of the index's key length
+    refused 10 by the index: key not of the index's key length
     """
 
     def __init__(self, number: int, place: int = 0, link: Optional[Link] = None) -> None:

@@ -13,12 +13,15 @@ from dwarnizza import (
     Encoding,
     Envelope,
     Index,
+    Refusal,
     Root,
     Settings,
     UncheckedBuild,
+    entry_bytes,
     key_from_text,
     md5,
     write_index,
+    written_length,
 )
 
 NAME = "archives/066a04990bc3bbc7c21bab87f0144807.index"
@@ -139,11 +142,22 @@ class Numbers(unittest.TestCase):
             lambda: root.find_many([417, 417 + 2**32]),
             lambda: root.find_many([-1]),
             lambda: index.entry(-1),
-            lambda: key_from_text("00", 257),
-            lambda: write_index(Settings(257, 4, 1), b""),
+            lambda: key_from_text("00", 1 + 2**32),
+            lambda: write_index(Settings(1 + 2**32, 4, 1), b""),
         ):
             with self.assertRaises(ValueError):
                 call()
+
+    def test_settings_that_are_right_in_their_lowest_bits_are_refused(self) -> None:
+        for call in (
+            lambda: key_from_text("00", 257),
+            lambda: write_index(Settings(257, 4, 1), b""),
+            lambda: written_length(Settings(1, 260, 1), b""),
+            lambda: entry_bytes(Settings(1, 4, 272), b"", size=0, archive=0, offset=0),
+        ):
+            with self.assertRaises(Refusal) as refused:
+                call()
+            self.assertEqual(refused.exception.number, 11)
 
     def test_the_words_name_the_number(self) -> None:
         words = "id is 4294967296, which is not 0 to 4294967295"

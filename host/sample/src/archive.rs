@@ -112,7 +112,7 @@ impl Archives {
 }
 
 /// The index of these envelopes with this offset width.
-fn index<'a>(offset_width: u8, stored: impl Iterator<Item = &'a Stored>) -> Vec<u8> {
+fn index<'a>(offset_width: u32, stored: impl Iterator<Item = &'a Stored>) -> Vec<u8> {
     let settings = Settings {
         version: 1,
         offset_width,
@@ -127,7 +127,7 @@ fn index<'a>(offset_width: u8, stored: impl Iterator<Item = &'a Stored>) -> Vec<
 }
 
 /// The bytes of an entry: the archive's number is in the index of all archives only.
-fn entry(offset_width: u8, stored: &Stored) -> Vec<u8> {
+fn entry(offset_width: u32, stored: &Stored) -> Vec<u8> {
     let mut entry = stored.key.to_vec();
     entry.extend((stored.size as u32).to_be_bytes());
     if offset_width == 6 {

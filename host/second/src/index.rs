@@ -40,11 +40,11 @@ const SIZE_WIDTH: usize = 4;
 #[derive(Clone, Copy, Debug, PartialEq, Eq)]
 pub struct Settings {
     /// 0 or 1.
-    pub version: u8,
+    pub version: u32,
     /// W: 4, 5 or 6.
-    pub offset_width: u8,
+    pub offset_width: u32,
     /// K: 1 to 16.
-    pub key_length: u8,
+    pub key_length: u32,
 }
 
 impl Settings {
@@ -56,12 +56,12 @@ impl Settings {
 
     /// How many bytes a key has: K.
     pub fn key_len(self) -> usize {
-        self.key_length.into()
+        self.key_length as usize
     }
 
     /// How many bytes an entry has: key, encoded size, location.
     pub fn entry_len(self) -> usize {
-        self.key_len() + SIZE_WIDTH + usize::from(self.offset_width)
+        self.key_len() + SIZE_WIDTH + self.offset_width as usize
     }
 
     /// E: how many entries a full page holds.

@@ -3,11 +3,11 @@
 use crate::refusal::{self, Refusal};
 
 /// The key of K bytes that this is the text of; refuses with 11, 60, 61 in this order.
-pub fn from_text(text: &[u8], key_length: u8) -> Result<Vec<u8>, Refusal> {
+pub fn from_text(text: &[u8], key_length: u32) -> Result<Vec<u8>, Refusal> {
     if !matches!(key_length, 1..=16) {
         return Err(refusal::SETTINGS);
     }
-    if text.len() != 2 * usize::from(key_length) {
+    if text.len() != 2 * key_length as usize {
         return Err(refusal::KEY_TEXT_LENGTH);
     }
     let digits: Vec<u8> = text

@@ -12,7 +12,7 @@ use second::refusal::{self, Refusal};
 const K1_W4: Settings = settings(1, 4);
 const K16_W4: Settings = settings(16, 4);
 
-const fn settings(key_length: u8, offset_width: u8) -> Settings {
+const fn settings(key_length: u32, offset_width: u32) -> Settings {
     Settings {
         version: 1,
         offset_width,
@@ -28,7 +28,7 @@ fn counted_list(settings: Settings, entries: usize, first: u128, step: u128) -> 
         list.extend(&key[key.len() - settings.key_len()..]);
         list.extend((number as u32).to_be_bytes());
         let location = (7 * number as u64).to_be_bytes();
-        list.extend(&location[location.len() - usize::from(settings.offset_width)..]);
+        list.extend(&location[location.len() - settings.offset_width as usize..]);
     }
     list
 }

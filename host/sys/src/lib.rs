@@ -70,9 +70,9 @@ unsafe extern "C" {
     ) -> u32;
 
     pub fn dwarnizza_index_write(
-        version: u8,
-        offset_width: u8,
-        key_length: u8,
+        version: u32,
+        offset_width: u32,
+        key_length: u32,
         list: *const u8,
         list_len: usize,
         output: *mut u8,
@@ -81,18 +81,18 @@ unsafe extern "C" {
     ) -> u32;
 
     pub fn dwarnizza_index_written_length(
-        version: u8,
-        offset_width: u8,
-        key_length: u8,
+        version: u32,
+        offset_width: u32,
+        key_length: u32,
         list: *const u8,
         list_len: usize,
         answer: &mut [u64; 8],
     ) -> u32;
 
     pub fn dwarnizza_list_put(
-        version: u8,
-        offset_width: u8,
-        key_length: u8,
+        version: u32,
+        offset_width: u32,
+        key_length: u32,
         key: *const u8,
         key_len: usize,
         size: u32,
@@ -212,7 +212,7 @@ unsafe extern "C" {
     pub fn dwarnizza_key_text(
         text: *const u8,
         text_len: usize,
-        key_length: u8,
+        key_length: u32,
         key: &mut [u8; 16],
         answer: &mut [u64; 8],
     ) -> u32;

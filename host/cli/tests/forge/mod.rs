@@ -25,10 +25,10 @@ pub fn list(settings: Settings, entries: u32, first_offset: u64) -> Vec<u8> {
     let mut list = Vec::new();
     for number in 0..entries {
         let key = (u128::from(number) << 64 | 0xabc).to_be_bytes();
-        list.extend(&key[16 - usize::from(settings.key_length)..]);
+        list.extend(&key[16 - settings.key_length as usize..]);
         list.extend((number * 3 + 7).to_be_bytes());
         let offset = (first_offset + 5 * u64::from(number)).to_be_bytes();
-        list.extend(&offset[8 - usize::from(settings.offset_width)..]);
+        list.extend(&offset[8 - settings.offset_width as usize..]);
     }
     list
 }

@@ -32,10 +32,11 @@ pub fn in_library_settings(settings: second::index::Settings) -> Settings {
         offset_width,
         key_length,
     } = settings;
+    let byte = |number: u32| u8::try_from(number).expect("tests give settings of 8 bits");
     Settings {
-        version,
-        offset_width,
-        key_length,
+        version: byte(version),
+        offset_width: byte(offset_width),
+        key_length: byte(key_length),
     }
 }
 

@@ -60,7 +60,7 @@ pub const FOOTER_HASH: Range<usize> = 20..28;
 const HASH: usize = 8;
 
 /// Version 1 with these.
-pub fn settings(key_length: u8, offset_width: u8) -> Settings {
+pub fn settings(key_length: u32, offset_width: u32) -> Settings {
     Settings {
         version: 1,
         offset_width,
@@ -107,7 +107,7 @@ impl IndexFile {
             offset_width,
             key_length,
         } = settings;
-        let fields = [version, 0, 0, 4, offset_width, 4, key_length, 8];
+        let fields = [version, 0, 0, 4, offset_width, 4, key_length, 8].map(|field| field as u8);
         file.footer()[VERSION..=HASH_LENGTH].copy_from_slice(&fields);
         file.set_count(entries as u32);
         file.fix_contents_hash();
@@ -253,9 +253,9 @@ pub enum Fault {
 /// Any settings, and how many entries: mostly few pages of them.
 pub fn random_layout(random: &mut Random) -> (Settings, usize) {
     let settings = Settings {
-        version: random.up_to(1) as u8,
-        offset_width: 4 + random.up_to(2) as u8,
-        key_length: 1 + random.up_to(15) as u8,
+        version: random.up_to(1) as u32,
+        offset_width: 4 + random.up_to(2) as u32,
+        key_length: 1 + random.up_to(15) as u32,
     };
     let full = settings.entries_per_page();
     let entries = match random.up_to(9) {

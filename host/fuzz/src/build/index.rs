@@ -40,9 +40,9 @@ impl List {
     /// A list with any settings, mostly of one or two pages.
     pub fn new(random: &mut Random) -> Self {
         let settings = Settings {
-            version: random.within(0..=1) as u8,
-            offset_width: random.within(4..=6) as u8,
-            key_length: keys::length(random),
+            version: random.within(0..=1) as u32,
+            offset_width: random.within(4..=6) as u32,
+            key_length: keys::length(random).into(),
         };
         Self::with(random, settings)
     }

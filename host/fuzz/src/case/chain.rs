@@ -45,8 +45,12 @@ pub fn compare(random: &mut Random, comparison: &mut Comparison) -> Compared {
 fn index(random: &mut Random, key_length: u8) -> Index {
     let settings = Settings {
         version: 1,
-        offset_width: random.within(4..=6) as u8,
-        key_length: if random.one_in(20) { 7 } else { key_length },
+        offset_width: random.within(4..=6) as u32,
+        key_length: if random.one_in(20) {
+            7
+        } else {
+            key_length.into()
+        },
     };
     Index::of(List::with(random, settings))
 }

@@ -14,7 +14,7 @@ const BESIDE: &[u8] = b"/:@G`g x\0\xff";
 
 pub fn compare(random: &mut Random, comparison: &mut Comparison) -> Compared {
     let key_length = match random.within(0..=9) {
-        0 => random.pick(&[0, 17, 32, 255]),
+        0 => random.pick(&[0, 17, 32, 255, 256, 272, 65536 + 16, u32::MAX as usize]),
         _ => random.within(1..=16),
     };
     let digits = 2 * key_length.min(20);

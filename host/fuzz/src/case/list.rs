@@ -25,9 +25,9 @@ pub fn compare_written(random: &mut Random, comparison: &mut Comparison) -> Comp
 /// An entry, with a key and numbers about what its settings take.
 pub fn compare_entry(random: &mut Random, comparison: &mut Comparison) -> Compared {
     let good = Settings {
-        version: random.within(0..=1) as u8,
-        offset_width: random.within(4..=6) as u8,
-        key_length: random.within(1..=16) as u8,
+        version: random.within(0..=1) as u32,
+        offset_width: random.within(4..=6) as u32,
+        key_length: random.within(1..=16) as u32,
     };
     let length = match random.within(0..=5) {
         0 => random.within(0..=18),
@@ -37,7 +37,7 @@ pub fn compare_entry(random: &mut Random, comparison: &mut Comparison) -> Compar
     let (archive, offset) = match (good.offset_width, random.within(0..=4)) {
         (_, 0) => (random.number(32), random.number(64)),
         (6, _) => (random.number(16), random.number(32)),
-        (width, _) => (0, random.number(8 * u32::from(width))),
+        (width, _) => (0, random.number(8 * width)),
     };
     let [version, offset_width, key_length] = settings(random, good);
     let size = random.number(32);
@@ -48,14 +48,15 @@ pub fn compare_entry(random: &mut Random, comparison: &mut Comparison) -> Compar
     Ok(())
 }
 
-/// These settings, or rarely one of them beside its bounds or any.
+/// These settings, or rarely one of them beside its bounds, the same in its lowest bits, or any.
 fn settings(random: &mut Random, settings: Settings) -> [u64; 3] {
     let mut numbers = [settings.version, settings.offset_width, settings.key_length];
     if random.one_in(10) {
         let wrong = random.within(0..=2);
-        numbers[wrong] = match random.within(0..=1) {
+        numbers[wrong] = match random.within(0..=2) {
             0 => random.pick(&[0, 1, 2, 3, 4, 6, 7, 16, 17, 255]),
-            _ => random.word() as u8,
+            1 => numbers[wrong] + random.pick(&[1 << 8, 1 << 16, 1 << 31]),
+            _ => random.word() as u32,
         };
     }
     numbers.map(u64::from)

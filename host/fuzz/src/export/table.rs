@@ -554,12 +554,12 @@ pub static KEY_TEXT: Export = Export {
     // SAFETY: the text is a slice, and the output has 16 bytes, as its case lends it.
     library: Function::Other(|given, lent| unsafe {
         let (text, text_len) = given.lent(0);
-        let key_length = given.numbers[0] as u8;
+        let key_length = given.numbers[0] as u32;
         let (key, answer) = (bytes_16(lent), &mut *lent.answer);
         sys::dwarnizza_key_text(text, text_len, key_length, key, answer)
     }),
     second: |given, output| {
-        let told = key::from_text(given.bytes[0], given.numbers[0] as u8);
+        let told = key::from_text(given.bytes[0], given.numbers[0] as u32);
         Said::of(told, |key| {
             output[..key.len()].copy_from_slice(&key);
             [key.len() as u64]
@@ -647,9 +647,9 @@ const SETTINGS: &[&str] = &["version", "W", "K"];
 
 const WANTED: &[&str] = &["id", "locale", "unwanted"];
 
-/// The settings that are given, as numbers of 8 bits.
+/// The settings that are given, as numbers of 32 bits.
 fn given_settings(given: &Given) -> Settings {
-    let [version, offset_width, key_length, ..] = given.numbers.map(|number| number as u8);
+    let [version, offset_width, key_length, ..] = given.numbers.map(|number| number as u32);
     Settings {
         version,
         offset_width,

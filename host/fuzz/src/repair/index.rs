@@ -39,9 +39,9 @@ pub fn index(file: &mut Vec<u8>, footer: &[u8; FOOTER], random: &mut Random) {
 fn said(file: &[u8]) -> Option<(Settings, usize)> {
     let footer = file.last_chunk::<FOOTER>()?;
     let settings = Settings {
-        version: footer[8],
-        offset_width: footer[12],
-        key_length: footer[14],
+        version: footer[8].into(),
+        offset_width: footer[12].into(),
+        key_length: footer[14].into(),
     };
     let [.., n0, n1, n2, n3, _, _, _, _, _, _, _, _] = *footer;
     let entries = u32::from_le_bytes([n0, n1, n2, n3]) as usize;

@@ -83,13 +83,13 @@ pub fn put_entry(
 }
 
 /// The bytes of a location; none where they cannot hold both numbers.
-fn location(width: u8, archive: u32, offset: u64) -> Option<Vec<u8>> {
+fn location(width: u32, archive: u32, offset: u64) -> Option<Vec<u8>> {
     if width == 6 {
         let archive = u16::try_from(archive).ok()?.to_be_bytes();
         let offset = u32::try_from(offset).ok()?.to_be_bytes();
         return Some([&archive[..], &offset].concat());
     }
     let bytes = offset.to_be_bytes();
-    let (high, low) = bytes.split_at(bytes.len() - usize::from(width));
+    let (high, low) = bytes.split_at(bytes.len() - width as usize);
     (archive == 0 && high.iter().all(|&byte| byte == 0)).then(|| low.to_vec())
 }

@@ -81,9 +81,9 @@ impl Footer {
         }
         Ok(Self {
             settings: Settings {
-                version,
-                offset_width,
-                key_length,
+                version: version.into(),
+                offset_width: offset_width.into(),
+                key_length: key_length.into(),
             },
             entries: u32::from_le_bytes([n0, n1, n2, n3]) as usize,
         })
@@ -102,13 +102,13 @@ impl Footer {
         contents.copy_from_slice(&contents_hash);
         let (bytes, count) = fields.split_at_mut(8);
         bytes.copy_from_slice(&[
-            version,
+            version as u8,
             RESERVED,
             RESERVED,
             PAGE_KB,
-            offset_width,
+            offset_width as u8,
             SIZE_WIDTH_FIELD,
-            key_length,
+            key_length as u8,
             HASH_LENGTH,
         ]);
         count.copy_from_slice(&(self.entries as u32).to_le_bytes());

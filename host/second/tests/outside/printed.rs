@@ -11,7 +11,7 @@ use second::index::{self, Settings};
 use second::root::{self, BlockParts, Record};
 use second::{envelope, key};
 
-fn settings(offset_width: u8, key_length: u8) -> Settings {
+fn settings(offset_width: u32, key_length: u32) -> Settings {
     Settings {
         version: 1,
         offset_width,

@@ -60,7 +60,7 @@ fn index<const N: usize>(list: &[[u8; N]]) -> Vec<u8> {
     let settings = second::index::Settings {
         version: 1,
         offset_width: 6,
-        key_length: N as u8 - 10,
+        key_length: N as u32 - 10,
     };
     let mut index = vec![0; settings.file_len(list.len())];
     second::index::write(settings, list.as_flattened(), &mut index).unwrap();

@@ -9,7 +9,7 @@ const LIST: [u8; 18] = [5, 0, 0, 0, 7, 0, 0, 0, 9, 6, 0, 0, 0, 8, 0, 0, 0, 7];
 
 const SETTINGS: Settings = settings(1, 4);
 
-const fn settings(key_length: u8, offset_width: u8) -> Settings {
+const fn settings(key_length: u32, offset_width: u32) -> Settings {
     Settings {
         version: 1,
         offset_width,
@@ -41,11 +41,11 @@ fn index_out_of_order() -> Vec<u8> {
 }
 
 /// The index of the keys 05 and 08 with this offset width, whose locations begin with their key.
-fn index_of_two(offset_width: u8) -> Vec<u8> {
+fn index_of_two(offset_width: u32) -> Vec<u8> {
     let mut list = Vec::new();
     for key in [5, 8] {
         list.extend([key, 0, 0, 0, 7, key]);
-        list.resize(list.len() + usize::from(offset_width) - 1, 1);
+        list.resize(list.len() + offset_width as usize - 1, 1);
     }
     index_of(settings(1, offset_width), &list)
 }
@@ -223,39 +223,67 @@ fn writer() {
     assert_eq!(rest, [0xee]);
 }
 
-#[test]
-fn written_length() {
-    let length = |settings: Settings, list: &[u8]| {
-        // SAFETY: pointer and length are those of one slice.
-        answer(|answer| unsafe {
-            ffi::dwarnizza_index_written_length(
-                settings.version,
-                settings.offset_width,
-                settings.key_length,
-                list.as_ptr(),
-                list.len(),
-                answer,
-            )
-        })
-    };
-    assert_eq!(length(SETTINGS, &LIST), answered(index().len()));
-    assert_eq!(length(SETTINGS, &[]), answered(28));
-    assert_eq!(length(SETTINGS, &LIST[1..]), refused(12, 0));
-    let zeros = [0; 171 * 24];
-    assert_eq!(length(settings(16, 4), &zeros[..24]), answered(4148));
-    assert_eq!(length(settings(16, 4), &zeros), refused(8, 1));
+fn written_length(settings: Settings, list: &[u8]) -> Answer {
+    // SAFETY: pointer and length are those of one slice.
+    answer(|answer| unsafe {
+        ffi::dwarnizza_index_written_length(
+            settings.version,
+            settings.offset_width,
+            settings.key_length,
+            list.as_ptr(),
+            list.len(),
+            answer,
+        )
+    })
 }
 
-/// One entry with key length 2 and offset width 5, in an output of twelve bytes.
-fn put(key: &[u8], archive: u32, room: usize) -> (Answer, [u8; 12]) {
+#[test]
+fn length_before_writing() {
+    assert_eq!(written_length(SETTINGS, &LIST), answered(index().len()));
+    assert_eq!(written_length(SETTINGS, &[]), answered(28));
+    assert_eq!(written_length(SETTINGS, &LIST[1..]), refused(12, 0));
+    let zeros = [0; 171 * 24];
+    let sixteen = settings(16, 4);
+    assert_eq!(written_length(sixteen, &zeros[..24]), answered(4148));
+    assert_eq!(written_length(sixteen, &zeros), refused(8, 1));
+}
+
+/// Settings that are right in their lowest 8 or 16 bits alone.
+#[test]
+fn no_setting_is_cut_to_its_lowest_bits() {
+    let mut output = [0xee; 28];
+    let right = settings(2, 5);
+    let wrong = |version, offset_width, key_length| Settings {
+        version,
+        offset_width,
+        key_length,
+    };
+    for settings in [
+        wrong(257, 5, 2),
+        wrong(65536, 5, 2),
+        wrong(1, 260, 2),
+        wrong(1, 65536 + 5, 2),
+        wrong(1, 5, 272),
+        wrong(1, 5, u32::MAX),
+    ] {
+        assert_eq!(write(settings, &[], &mut output), refused(11, 0));
+        assert_eq!(written_length(settings, &[]), refused(11, 0));
+        assert_eq!(put(settings, &[9, 8], 0, 12).0, refused(11, 0));
+    }
+    assert_eq!(output, [0xee; 28]);
+    assert_eq!(written_length(right, &[]), answered(28));
+}
+
+/// One entry in an output of twelve bytes.
+fn put(settings: Settings, key: &[u8], archive: u32, room: usize) -> (Answer, [u8; 12]) {
     let mut output = [0xee; 12];
     let lent = &mut output[..room];
     // SAFETY: each pointer and length are those of one slice, and the slices do not overlap.
     let answer = answer(|answer| unsafe {
         ffi::dwarnizza_list_put(
-            0,
-            5,
-            2,
+            settings.version,
+            settings.offset_width,
+            settings.key_length,
             key.as_ptr(),
             key.len(),
             0x0102_0304,
@@ -271,11 +299,13 @@ fn put(key: &[u8], archive: u32, room: usize) -> (Answer, [u8; 12]) {
 
 #[test]
 fn entry_of_a_list() {
+    let settings = settings(2, 5);
     for (key, archive, number) in [(&[9][..], 1, 11), (&[9], 0, 10), (&[9, 8], 0, 13)] {
-        assert_eq!(put(key, archive, 10), (refused(number, 0), [0xee; 12]));
+        let told = put(settings, key, archive, 10);
+        assert_eq!(told, (refused(number, 0), [0xee; 12]));
     }
     let bytes = [9, 8, 1, 2, 3, 4, 0xa, 0xb, 0xc, 0xd, 0xe, 0xee];
-    assert_eq!(put(&[9, 8], 0, 12), (answered(11), bytes));
+    assert_eq!(put(settings, &[9, 8], 0, 12), (answered(11), bytes));
 }
 
 #[test]
