@@ -27,11 +27,11 @@ abbrev pub contentEntries : List ℕ
 contentEntries = 1 ∷ 0 ∷ 0 ∷ 0 ∷ 0 ∷ 3 ∷ 5 ∷ 17 ∷ 2 ∷ 0 ∷ 0 ∷ 0 ∷ 1 ∷ 0 ∷ 7 ∷ 33 ∷ 34 ∷ []
 
 -- Encoding keys 17 with spec 1, 33 with spec 0, 34 with spec 2, of sizes 12, 265 and 200.
-abbrev pub encodingEntries : List ℕ
-encodingEntries =
-    17 ∷ 0 ∷ 0 ∷ 0 ∷ 1 ∷ 0 ∷ 0 ∷ 0 ∷ 0 ∷ 12
-    ∷ 33 ∷ 0 ∷ 0 ∷ 0 ∷ 0 ∷ 0 ∷ 0 ∷ 0 ∷ 1 ∷ 9
-    ∷ 34 ∷ 0 ∷ 0 ∷ 0 ∷ 2 ∷ 0 ∷ 0 ∷ 0 ∷ 0 ∷ 200 ∷ []
+abbrev pub firstEntries : List ℕ
+firstEntries = 17 ∷ 0 ∷ 0 ∷ 0 ∷ 1 ∷ 0 ∷ 0 ∷ 0 ∷ 0 ∷ 12 ∷ 33 ∷ 0 ∷ 0 ∷ 0 ∷ 0 ∷ 0 ∷ 0 ∷ 0 ∷ 1 ∷ 9 ∷ []
+
+abbrev pub lastEntry : List ℕ
+lastEntry = 34 ∷ 0 ∷ 0 ∷ 0 ∷ 2 ∷ 0 ∷ 0 ∷ 0 ∷ 0 ∷ 200 ∷ []
 
 -- First key and MD5 of each page.
 abbrev pub contentIndex : List ℕ
@@ -41,7 +41,7 @@ abbrev pub encodingIndex : List ℕ
 encodingIndex = 17 ∷ 28 ∷ 212 ∷ 106 ∷ 187 ∷ 34 ∷ 43 ∷ 250 ∷ 243 ∷ 10 ∷ 213 ∷ 7 ∷ 84 ∷ 75 ∷ 234 ∷ 98 ∷ 7 ∷ []
 
 unfoldable pub encodingFile : List ℕ
-encodingFile = header ++ runOf specs ++ contentIndex ++ pageWith contentEntries ++ encodingIndex ++ pageWith encodingEntries
+encodingFile = header ++ runOf specs ++ contentIndex ++ pageWith contentEntries ++ encodingIndex ++ pageWith (firstEntries ++ lastEntry)
 
 -- What holds of it (proofs/Example.antt): it passes the full check, and the plain reading finds its keys. A content key tells size,
 -- number of encoding keys, place and length of their run; an encoding key tells spec number, size, place and length of the spec.

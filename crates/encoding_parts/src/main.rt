@@ -15,26 +15,57 @@ use parts::part;
 use refusal::Refusal;
 use refusal::Verdict;
 use text::put_hex;
+ghost use mathlib.Core.Path.{_≡_};
+ghost use Rattle.parts.specs.Part.{overlay};
+ghost use Rattle.encoding_parts.specs.File.{firstEntries, lastEntry, encodingFile};
+
+// A file with a part laid over it.
+fn laid(file: [u8; 2110], bytes: &[u8], at: usize) -> [u8; 2110]
+    ensures { λ r. ⌜ r ≡ overlay file at (now (bytes .entry)) ⌝ }
+{
+    let mut with = file;
+    copy(bytes, &mut with, at);
+    with
+}
+
+// The entries of the encoding page.
+fn encoding_entries(file: [u8; 2110]) -> [u8; 2110]
+    ensures { λ r. ⌜ r ≡ overlay (overlay file 1086 firstEntries) 1106 lastEntry ⌝ }
+{
+    let first = laid(
+        file,
+        b"\x11\x00\x00\x00\x01\x00\x00\x00\x00\x0c\x21\x00\x00\x00\x00\x00\x00\x00\x01\x09",
+        1086,
+    );
+    laid(first, b"\x22\x00\x00\x00\x02\x00\x00\x00\x00\xc8", 1106)
+}
 
 // The file: header, spec table, then index and entries of each kind.
-fn encoding_file() -> [u8; 2110] {
-    let mut file = [0; 2110];
-    let header =
-        b"EN\x01\x01\x01\x00\x01\x00\x01\x00\x00\x00\x01\x00\x00\x00\x01\x00\x00\x00\x00\x06";
-    let content_index = b"\x05\xe0\x50\x7b\x1a\x9c\x85\xf1\xfe\x2a\x42\xb8\x4e\x3e\xd4\x13\xc5";
-    let content_entries = b"\x01\x00\x00\x00\x00\x03\x05\x11\x02\x00\x00\x00\x01\x00\x07\x21\x22";
-    let encoding_index = b"\x11\x1c\xd4\x6a\xbb\x22\x2b\xfa\xf3\x0a\xd5\x07\x54\x4b\xea\x62\x07";
-    let first_entries =
-        b"\x11\x00\x00\x00\x01\x00\x00\x00\x00\x0c\x21\x00\x00\x00\x00\x00\x00\x00\x01\x09";
-    let last_entry = b"\x22\x00\x00\x00\x02\x00\x00\x00\x00\xc8";
-    copy(header, &mut file, 0);
-    copy(b"n\x00n\x00z\x00", &mut file, 22);
-    copy(content_index, &mut file, 28);
-    copy(content_entries, &mut file, 45);
-    copy(encoding_index, &mut file, 1069);
-    copy(first_entries, &mut file, 1086);
-    copy(last_entry, &mut file, 1106);
-    file
+fn encoding_file() -> [u8; 2110]
+    ensures { λ r. ⌜ r ≡ encodingFile ⌝ }
+{
+    let header = laid(
+        [0; 2110],
+        b"EN\x01\x01\x01\x00\x01\x00\x01\x00\x00\x00\x01\x00\x00\x00\x01\x00\x00\x00\x00\x06",
+        0,
+    );
+    let specs = laid(header, b"n\x00n\x00z\x00", 22);
+    let content_index = laid(
+        specs,
+        b"\x05\xe0\x50\x7b\x1a\x9c\x85\xf1\xfe\x2a\x42\xb8\x4e\x3e\xd4\x13\xc5",
+        28,
+    );
+    let content = laid(
+        content_index,
+        b"\x01\x00\x00\x00\x00\x03\x05\x11\x02\x00\x00\x00\x01\x00\x07\x21\x22",
+        45,
+    );
+    let encoding_index = laid(
+        content,
+        b"\x11\x1c\xd4\x6a\xbb\x22\x2b\xfa\xf3\x0a\xd5\x07\x54\x4b\xea\x62\x07",
+        1069,
+    );
+    encoding_entries(encoding_index)
 }
 
 fn put(text: &[u8]) {
