@@ -7,7 +7,7 @@ pub mod spec;
 use std::ffi::OsStr;
 
 use dwarnizza::encoding::{ContentEntry, EncodingEntry};
-use dwarnizza::{CheckedEncoding, Encoding, Key, Reason, Refusal, UncheckedEncoding};
+use dwarnizza::{CheckedEncoding, Encoding, Key, Reason, Refusal, Subject, UncheckedEncoding};
 
 use crate::command::{Arguments, Choice};
 use crate::input::read_judged;
@@ -18,7 +18,7 @@ use crate::words::kind_help;
 pub fn read(name: &OsStr) -> Result<Vec<u8>, Failure> {
     read_judged(name, |first| {
         let refusal = Encoding::check(first).err()?;
-        let by_header = refusal.reason <= Reason::EncodingHeader;
+        let by_header = refusal.reason.subject() == Subject::EncodingHeader;
         by_header.then(|| refused(name, refusal, first))
     })
 }

@@ -4,7 +4,7 @@ use std::ffi::OsStr;
 use std::ops::Range;
 
 use dwarnizza::index::{Page, UncheckedIndex};
-use dwarnizza::{Index, Reason, Refusal};
+use dwarnizza::{Index, Reason, Refusal, Subject};
 
 use crate::status::Failure;
 
@@ -66,18 +66,23 @@ pub fn kind_help(first: &[u8], wanted: &str) -> String {
 /// An index of these bytes is refused.
 pub fn index(name: &OsStr, refused: Refusal, bytes: &[u8]) -> Failure {
     let unchecked = Index::unchecked(bytes);
-    let help = if refused.reason <= Reason::IndexLength {
-        footer_help(refused, bytes, unchecked, bytes.len() as u64)
-    } else {
-        let place = place_in(unchecked, refused);
-        place.map_or_else(String::new, |place| {
-            format!("{place}: fetch the file again")
-        })
+    let help = match refused.reason.subject() {
+        Subject::IndexOpening => footer_help(refused, bytes, unchecked, bytes.len() as u64),
+        Subject::IndexPages => match place_in(unchecked, refused) {
+            Some(place) => format!("{place}: fetch the file again"),
+            None => String::new(),
+        },
+        // These are not refusals of an index.
+        Subject::Call
+        | Subject::Envelope
+        | Subject::EncodingHeader
+        | Subject::Encoding
+        | Subject::Root => String::new(),
     };
     Failure::refused(name, refused, &help)
 }
 
-/// Judges an index by its footer and its length, which are refusals 1 to 5.
+/// Judges an index by its footer and its length: the opening checks.
 pub fn judge_footer(name: &OsStr, first: &[u8], last: &[u8], length: u64) -> Result<(), Failure> {
     let last = Index::unchecked(last);
     let refused = match last.footer() {
@@ -89,7 +94,8 @@ pub fn judge_footer(name: &OsStr, first: &[u8], last: &[u8], length: u64) -> Res
     Err(Failure::refused(name, refused, &help))
 }
 
-/// What refusals 1 to 5 mean, by the first and the last bytes of a file of this length.
+/// What a refusal by the opening checks means, by the first and the last bytes of a file of this
+/// length.
 fn footer_help(refused: Refusal, first: &[u8], last: UncheckedIndex<'_>, length: u64) -> String {
     match (refused.reason, kind(first)) {
         (Reason::EntryCount, _) => String::new(),
@@ -120,30 +126,21 @@ fn footer_help(refused: Refusal, first: &[u8], last: UncheckedIndex<'_>, length:
     }
 }
 
-/// Where in the file refusals 6 to 9 stand; none for others.
+/// Where in the file a refusal of its pages stands.
 fn place_in(index: UncheckedIndex<'_>, refused: Refusal) -> Option<String> {
-    if refused.reason == Reason::IndexOrder {
+    if refused.reason.place_words() == "entry" {
         let entry = index.entry(refused.place).ok()??;
         let key = bytes(&(entry.place..entry.place + entry.key.len()));
         return Some(format!("its key stands at {key}"));
     }
     let page = Page(u32::try_from(refused.place).ok()?);
     let parts = index.page(page).ok()??;
-    let page = bytes(&parts.page);
-    match refused.reason {
-        Reason::IndexPageHash => {
-            let hash = bytes(&parts.hash);
-            Some(format!("that page stands at {page}, its hash at {hash}"))
-        }
-        Reason::IndexPadding => Some(format!("that page stands at {page}")),
-        Reason::LastKey => {
-            let last_key = bytes(&parts.last_key);
-            Some(format!(
-                "that page stands at {page}, its stored last key at {last_key}"
-            ))
-        }
-        _ => None,
-    }
+    let page = format!("that page stands at {}", bytes(&parts.page));
+    Some(match refused.reason {
+        Reason::IndexPageHash => format!("{page}, its hash at {}", bytes(&parts.hash)),
+        Reason::LastKey => format!("{page}, its stored last key at {}", bytes(&parts.last_key)),
+        _ => page,
+    })
 }
 
 /// A range of bytes in words.

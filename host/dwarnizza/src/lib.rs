@@ -61,6 +61,6 @@ pub use file_number::{NotFileNumber, NumberFault, file_number};
 pub use index::{CheckedIndex, Index, UncheckedIndex};
 pub use key::Key;
 pub use md5::{Md5, md5};
-pub use refusal::{Link, Reason, Refusal};
+pub use refusal::{Link, Reason, Refusal, Subject};
 pub use root::{CheckedRoot, Root};
 pub use worklist::Worklist;

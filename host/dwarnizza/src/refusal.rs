@@ -3,199 +3,137 @@
 use std::error::Error;
 use std::fmt;
 
-/// Why something was refused. Each reason has a number, which never changes.
-///
-/// ```
-/// use dwarnizza::{Index, Reason};
-///
-/// let refused = Index::check(b"no index").unwrap_err();
-/// assert_eq!(refused.reason, Reason::IndexShort);
-/// assert_eq!(refused.reason.number(), 1);
-/// ```
-#[derive(Clone, Copy, Debug, PartialEq, Eq, PartialOrd, Ord, Hash)]
-#[non_exhaustive]
-#[repr(u32)]
-pub enum Reason {
-    /// Index under 28 bytes.
-    IndexShort = 1,
-    /// A footer field outside its list.
-    FooterField = 2,
-    /// Footer hash wrong.
-    FooterHash = 3,
-    /// More than 8,388,608 entries.
-    EntryCount = 4,
-    /// File length wrong.
-    IndexLength = 5,
-    /// Page hash wrong; place: page.
-    IndexPageHash = 6,
-    /// Padding not zero; place: page.
-    IndexPadding = 7,
-    /// Key not above the one before; place: entry.
-    IndexOrder = 8,
-    /// Stored last key wrong; place: page.
-    LastKey = 9,
-    /// Sought key not of the index's key length.
-    IndexKeyLength = 10,
-    /// Settings wrong.
-    Settings = 11,
-    /// List not whole entries.
-    ListLength = 12,
-    /// Output shorter than the file or list to be written.
-    OutputShort = 13,
-    /// Envelope under 8 bytes, or not BLTE.
-    NotBlte = 20,
-    /// Envelope's header size, flags or chunk count wrong, or header past the end.
-    EnvelopeHeader = 21,
-    /// An empty chunk, or sizes not adding up to the rest.
-    ChunkSizes = 22,
-    /// Chunk hash wrong; place: chunk.
-    ChunkHash = 23,
-    /// Chunk mode not N; place: chunk.
-    ChunkMode = 24,
-    /// Decoded size not encoded size less 1; place: chunk.
-    DecodedSize = 25,
-    /// Output shorter than the content.
-    ContentOutputShort = 26,
-    /// Envelope key not the one given.
-    EnvelopeKey = 27,
-    /// Encoding file under 22 bytes, or not EN.
-    NotEncoding = 30,
-    /// A header field of the encoding file outside its range.
-    EncodingHeader = 31,
-    /// Parts of the encoding file run past its end.
-    EncodingCut = 32,
-    /// Last spec not closed.
-    SpecTableOpen = 33,
-    /// Page hash wrong; place: page.
-    EncodingPageHash = 34,
-    /// Entry over the page's end; place: page.
-    EntryOverPage = 35,
-    /// Key not above the one before; place: page.
-    EncodingOrder = 36,
-    /// First key wrong; place: page.
-    FirstKey = 37,
-    /// Spec number past the table.
-    SpecNumber = 38,
-    /// Sought key not of the encoding file's key length.
-    EncodingKeyLength = 39,
-    /// Block cut; place: byte offset of the block.
-    BlockCut = 40,
-    /// Id outside 0 to 4,294,967,295; place: byte offset of the block.
-    IdRange = 41,
-    /// Header size of the root file from 16 to 19.
-    RootHeaderSize = 42,
-    /// Header of the root file cut.
-    RootHeaderCut = 43,
-    /// Root file of version 4.
-    RootVersion = 44,
-    /// More than 2^48 bytes hashed.
-    HashLimit = 50,
-    /// Key text not two characters for each byte of the key.
-    KeyTextLength = 60,
-    /// Not a hex digit; place: digit.
-    HexDigit = 61,
-    /// Listing input above 65,536 bytes.
-    ListingInput = 70,
-    /// List falls: an id below the one before; place: id.
-    ListFalls = 161,
+/// Makes the reasons from their table: one row a number.
+macro_rules! reasons {
+    ($($name:ident = $number:literal, $subject:ident, $words:literal $(, $place:literal)?;)*) => {
+        /// Why something was refused. Each reason has a number, which never changes.
+        ///
+        /// ```
+        /// use dwarnizza::{Index, Reason};
+        ///
+        /// let refused = Index::check(b"no index").unwrap_err();
+        /// assert_eq!(refused.reason, Reason::IndexShort);
+        /// assert_eq!(refused.reason.number(), 1);
+        /// ```
+        #[derive(Clone, Copy, Debug, PartialEq, Eq, PartialOrd, Ord, Hash)]
+        #[non_exhaustive]
+        #[repr(u32)]
+        pub enum Reason {
+            $(
+                #[doc = concat!("Refusal ", $number, ": ", $words, $("; place: ", $place,)? ".")]
+                $name = $number,
+            )*
+        }
+
+        impl Reason {
+            const ALL: &[Self] = &[$(Self::$name),*];
+
+            /// What was wrong, in words.
+            ///
+            /// ```
+            /// assert_eq!(dwarnizza::Reason::FooterHash.words(), "footer hash wrong");
+            /// ```
+            pub const fn words(self) -> &'static str {
+                match self { $(Self::$name => $words,)* }
+            }
+
+            /// What its place counts; empty where the number names no place.
+            ///
+            /// ```
+            /// use dwarnizza::Reason;
+            ///
+            /// assert_eq!(Reason::IndexOrder.place_words(), "entry");
+            /// assert_eq!(Reason::IndexShort.place_words(), "");
+            /// ```
+            pub const fn place_words(self) -> &'static str {
+                match self { $(Self::$name => concat!($($place)?),)* }
+            }
+
+            /// What it is about.
+            ///
+            /// ```
+            /// use dwarnizza::{Reason, Subject};
+            ///
+            /// assert_eq!(Reason::FooterHash.subject(), Subject::IndexOpening);
+            /// ```
+            pub const fn subject(self) -> Subject {
+                match self { $(Self::$name => Subject::$subject,)* }
+            }
+        }
+    };
 }
 
-/// What the place of a reason counts.
-#[derive(Clone, Copy)]
-enum Place {
-    Nothing,
-    Page,
-    Entry,
-    Chunk,
-    BlockAtByte,
-    Digit,
-    Id,
+// Name, number, subject, words, and what the place counts where the number names one.
+// `include/dwarnizza.h` has the same rows for C and Python, and N1 of docs/RULES.md the rule of each.
+reasons! {
+    IndexShort = 1, IndexOpening, "index under 28 bytes";
+    FooterField = 2, IndexOpening, "a footer field outside its list";
+    FooterHash = 3, IndexOpening, "footer hash wrong";
+    EntryCount = 4, IndexOpening, "more than 8,388,608 entries";
+    IndexLength = 5, IndexOpening, "file length wrong";
+    IndexPageHash = 6, IndexPages, "page hash wrong", "page";
+    IndexPadding = 7, IndexPages, "padding not zero", "page";
+    IndexOrder = 8, IndexPages, "key not above the one before", "entry";
+    LastKey = 9, IndexPages, "stored last key wrong", "page";
+    IndexKeyLength = 10, Call, "key not of the index's key length";
+    Settings = 11, Call, "settings wrong";
+    ListLength = 12, Call, "list not whole entries";
+    OutputShort = 13, Call, "output shorter than what is to be written";
+    NotBlte = 20, Envelope, "envelope under 8 bytes, or not BLTE";
+    EnvelopeHeader = 21, Envelope, "envelope's header size, flags or chunk count wrong, or header past the end";
+    ChunkSizes = 22, Envelope, "an empty chunk, or sizes not adding up to the rest";
+    ChunkHash = 23, Envelope, "chunk hash wrong", "chunk";
+    ChunkMode = 24, Envelope, "chunk mode not N", "chunk";
+    DecodedSize = 25, Envelope, "decoded size not encoded size less 1", "chunk";
+    ContentOutputShort = 26, Call, "output shorter than the content";
+    EnvelopeKey = 27, Envelope, "envelope key not the one given";
+    NotEncoding = 30, EncodingHeader, "encoding file under 22 bytes, or not EN";
+    EncodingHeader = 31, EncodingHeader, "a header field of the encoding file wrong";
+    EncodingCut = 32, Encoding, "parts of the encoding file run past its end";
+    SpecTableOpen = 33, Encoding, "last spec not closed";
+    EncodingPageHash = 34, Encoding, "page hash wrong", "page";
+    EntryOverPage = 35, Encoding, "entry over the page's end", "page";
+    EncodingOrder = 36, Encoding, "key not above the one before", "page";
+    FirstKey = 37, Encoding, "first key wrong", "page";
+    SpecNumber = 38, Encoding, "spec number past the table";
+    EncodingKeyLength = 39, Call, "sought key not of the encoding file's key length";
+    BlockCut = 40, Root, "block cut", "block at byte";
+    IdRange = 41, Root, "id outside its range", "block at byte";
+    RootHeaderSize = 42, Root, "root header size from 16 to 19";
+    RootHeaderCut = 43, Root, "root header cut";
+    RootVersion = 44, Root, "root version 4";
+    HashLimit = 50, Call, "more than 2^48 bytes hashed";
+    KeyTextLength = 60, Call, "key text not two characters for each byte of the key";
+    HexDigit = 61, Call, "not a hex digit", "digit";
+    ListingInput = 70, Call, "listing input above 65,536 bytes";
+    ListFalls = 161, Call, "list falls", "id";
 }
 
-/// What each reason says, and what its place counts, by number.
-const MEANINGS: [(Reason, &str, Place); 41] = {
-    use Place::{BlockAtByte, Chunk, Digit, Entry, Id, Nothing, Page};
-    use Reason::*;
-    [
-        (IndexShort, "index under 28 bytes", Nothing),
-        (FooterField, "a footer field outside its list", Nothing),
-        (FooterHash, "footer hash wrong", Nothing),
-        (EntryCount, "more than 8,388,608 entries", Nothing),
-        (IndexLength, "file length wrong", Nothing),
-        (IndexPageHash, "page hash wrong", Page),
-        (IndexPadding, "padding not zero", Page),
-        (IndexOrder, "key not above the one before", Entry),
-        (LastKey, "stored last key wrong", Page),
-        (IndexKeyLength, "key not of the index's key length", Nothing),
-        (Settings, "settings wrong", Nothing),
-        (ListLength, "list not whole entries", Nothing),
-        (
-            OutputShort,
-            "output shorter than what is to be written",
-            Nothing,
-        ),
-        (NotBlte, "envelope under 8 bytes, or not BLTE", Nothing),
-        (
-            EnvelopeHeader,
-            "envelope's header size, flags or chunk count wrong, or header past the end",
-            Nothing,
-        ),
-        (
-            ChunkSizes,
-            "an empty chunk, or sizes not adding up to the rest",
-            Nothing,
-        ),
-        (ChunkHash, "chunk hash wrong", Chunk),
-        (ChunkMode, "chunk mode not N", Chunk),
-        (DecodedSize, "decoded size not encoded size less 1", Chunk),
-        (
-            ContentOutputShort,
-            "output shorter than the content",
-            Nothing,
-        ),
-        (EnvelopeKey, "envelope key not the one given", Nothing),
-        (
-            NotEncoding,
-            "encoding file under 22 bytes, or not EN",
-            Nothing,
-        ),
-        (
-            EncodingHeader,
-            "a header field of the encoding file wrong",
-            Nothing,
-        ),
-        (
-            EncodingCut,
-            "parts of the encoding file run past its end",
-            Nothing,
-        ),
-        (SpecTableOpen, "last spec not closed", Nothing),
-        (EncodingPageHash, "page hash wrong", Page),
-        (EntryOverPage, "entry over the page's end", Page),
-        (EncodingOrder, "key not above the one before", Page),
-        (FirstKey, "first key wrong", Page),
-        (SpecNumber, "spec number past the table", Nothing),
-        (
-            EncodingKeyLength,
-            "sought key not of the encoding file's key length",
-            Nothing,
-        ),
-        (BlockCut, "block cut", BlockAtByte),
-        (IdRange, "id outside its range", BlockAtByte),
-        (RootHeaderSize, "root header size from 16 to 19", Nothing),
-        (RootHeaderCut, "root header cut", Nothing),
-        (RootVersion, "root version 4", Nothing),
-        (HashLimit, "more than 2^48 bytes hashed", Nothing),
-        (
-            KeyTextLength,
-            "key text not two characters for each byte of the key",
-            Nothing,
-        ),
-        (HexDigit, "not a hex digit", Digit),
-        (ListingInput, "listing input above 65,536 bytes", Nothing),
-        (ListFalls, "list falls", Id),
-    ]
-};
+/// What a reason is about.
+///
+/// ```
+/// use dwarnizza::{Reason, Subject};
+///
+/// let opening = Reason::all().filter(|reason| reason.subject() == Subject::IndexOpening);
+/// assert_eq!(opening.last(), Some(Reason::IndexLength));
+/// ```
+#[derive(Clone, Copy, Debug, PartialEq, Eq, Hash)]
+pub enum Subject {
+    /// The length and the footer of an index: its opening checks.
+    IndexOpening,
+    /// The pages of an index.
+    IndexPages,
+    /// An envelope.
+    Envelope,
+    /// The 22 bytes that an encoding file begins with.
+    EncodingHeader,
+    /// What follows them.
+    Encoding,
+    /// A root file.
+    Root,
+    /// What a call was given beside a file: a key, a text, settings, a list, or an output.
+    Call,
+}
 
 impl Reason {
     /// The number of the reason.
@@ -219,15 +157,6 @@ impl Reason {
         Self::all().find(|reason| reason.number() == number)
     }
 
-    /// What was wrong, in words.
-    ///
-    /// ```
-    /// assert_eq!(dwarnizza::Reason::FooterHash.words(), "footer hash wrong");
-    /// ```
-    pub fn words(self) -> &'static str {
-        self.meaning().0
-    }
-
     /// All reasons, by number.
     ///
     /// ```
@@ -236,15 +165,7 @@ impl Reason {
     /// assert_eq!(Reason::all().next(), Some(Reason::IndexShort));
     /// ```
     pub fn all() -> impl Iterator<Item = Self> {
-        MEANINGS.into_iter().map(|(reason, ..)| reason)
-    }
-
-    /// Its words, and what its place counts.
-    fn meaning(self) -> (&'static str, Place) {
-        let mut meanings = MEANINGS.into_iter();
-        let meaning = meanings.find(|(reason, ..)| *reason == self);
-        let (_, words, place) = meaning.expect("every reason has its words");
-        (words, place)
+        Self::ALL.iter().copied()
     }
 }
 
@@ -300,25 +221,19 @@ impl Refusal {
 
 impl fmt::Display for Refusal {
     fn fmt(&self, f: &mut fmt::Formatter<'_>) -> fmt::Result {
-        let place = self.place;
-        let (words, counted) = self.reason.meaning();
+        let (place, counted) = (self.place, self.reason.place_words());
         write!(f, "refused {}", self.number())?;
-        if !matches!(counted, Place::Nothing) {
+        if !counted.is_empty() {
             write!(f, " at {place}")?;
         }
         if let Some(link) = self.link {
             write!(f, " by the {link}")?;
         }
-        write!(f, ": {words}")?;
-        match counted {
-            Place::Nothing => Ok(()),
-            Place::Page => write!(f, " (page {place})"),
-            Place::Entry => write!(f, " (entry {place})"),
-            Place::Chunk => write!(f, " (chunk {place})"),
-            Place::BlockAtByte => write!(f, " (block at byte {place})"),
-            Place::Digit => write!(f, " (digit {place})"),
-            Place::Id => write!(f, " (id {place})"),
+        write!(f, ": {}", self.reason.words())?;
+        if !counted.is_empty() {
+            write!(f, " ({counted} {place})")?;
         }
+        Ok(())
     }
 }
 
@@ -359,7 +274,7 @@ mod tests {
         refusal.to_string()
     }
 
-    /// The name of a constant of the header, as the reasons have it: `INDEX_SHORT` is `IndexShort`.
+    /// The name of a constant, as the reasons have it: `INDEX_SHORT` is `IndexShort`.
     fn name_of(constant: &str) -> String {
         let words = constant.split('_').map(|word| {
             let (first, rest) = word.split_at(1);
@@ -368,33 +283,78 @@ mod tests {
         words.collect()
     }
 
-    /// The header's table has a row for each reason, with its name, number, words and place, and no
-    /// other rows.
-    #[test]
-    fn the_reasons_are_those_of_the_header() {
+    /// The reasons: name, number and place.
+    fn reasons() -> Vec<(String, u32, String)> {
+        let row = |reason: Reason| {
+            let place = reason.place_words().to_string();
+            (format!("{reason:?}"), reason.number(), place)
+        };
+        Reason::all().map(row).collect()
+    }
+
+    /// The rows of the header's table: name, number, words and place.
+    fn header_rows() -> Vec<[&'static str; 4]> {
         let header = include_str!("../../../include/dwarnizza.h");
         let rows = header
             .lines()
             .filter_map(|line| line.trim().strip_prefix("X(DWARNIZZA_"));
-        let mut reasons = Reason::all();
-        for row in rows {
-            let reason = reasons.next().expect("it has a reason");
-            let (constant, rest) = row.split_once(", ").expect("it has a name");
-            assert_eq!(format!("{reason:?}"), name_of(constant));
-            let number_and_words = format!("{}, \"{}\", \"", reason.number(), reason.words());
-            let place = rest.strip_prefix(&number_and_words);
-            let place = place.and_then(|place| place.split('"').next());
-            let place = place.expect("it has the number and the words of the reason");
-            let said = said(reason, 5, None);
-            assert_eq!(said.ends_with(&format!(" ({place} 5)")), !place.is_empty());
-            assert_eq!(Reason::from_number(reason.number()), Some(reason));
-        }
-        assert_eq!(reasons.next(), None);
+        let row = |row: &'static str| {
+            let (name, rest) = row.split_once(", ")?;
+            let (number, rest) = rest.split_once(", \"")?;
+            let (words, rest) = rest.split_once("\", \"")?;
+            let (place, _) = rest.split_once("\")")?;
+            Some([name, number, words, place])
+        };
+        rows.map(|text| row(text).expect(text)).collect()
+    }
+
+    /// The rows of N1: number, name and place, the place as the header has it.
+    fn n1_rows() -> Vec<[&'static str; 3]> {
+        let rules = include_str!("../../../docs/RULES.md");
+        let (_, n1) = rules.split_once("**N1 Numbers.**").expect("it is there");
+        let (n1, _) = n1.split_once("**N2 Orders.**").expect("N2 follows");
+        let rows = n1.lines().filter_map(|line| {
+            let mut fields = line.strip_prefix("| ")?.split(" | ");
+            let (number, name) = (fields.next()?, fields.next()?.strip_prefix('`')?);
+            let place = match fields.nth(1)? {
+                "–" => "",
+                "byte offset of the block" => "block at byte",
+                "offset of the character" => "digit",
+                counted => counted,
+            };
+            Some([number, name.trim_end_matches('`'), place])
+        });
+        rows.collect()
+    }
+
+    fn row(name: &str, number: &str, place: &str) -> (String, u32, String) {
+        let number = number.parse().expect("it is a number");
+        (name_of(name), number, place.to_string())
     }
 
     #[test]
-    fn every_reason_has_words() {
+    fn the_header_has_the_reasons_and_their_words() {
+        let rows = header_rows();
+        let in_header = rows
+            .iter()
+            .map(|[name, number, _, place]| row(name, number, place));
+        assert_eq!(in_header.collect::<Vec<_>>(), reasons());
+        let in_header = rows.iter().map(|[_, _, words, _]| *words);
+        let words = Reason::all().map(Reason::words);
+        assert_eq!(in_header.collect::<Vec<_>>(), words.collect::<Vec<_>>());
+    }
+
+    #[test]
+    fn n1_has_the_reasons() {
+        let rows = n1_rows().into_iter();
+        let in_rules = rows.map(|[number, name, place]| row(name, number, place));
+        assert_eq!(in_rules.collect::<Vec<_>>(), reasons());
+    }
+
+    #[test]
+    fn each_number_tells_its_reason_and_each_reason_has_words() {
         for reason in Reason::all() {
+            assert_eq!(Reason::from_number(reason.number()), Some(reason));
             assert!(!reason.words().is_empty());
             assert!(said(reason, 0, None).contains(reason.words()));
         }
@@ -402,26 +362,16 @@ mod tests {
 
     #[test]
     fn the_place_is_said_exactly_where_the_table_names_one() {
-        let places = [
-            (6..=7, "page 5"),
-            (8..=8, "entry 5"),
-            (9..=9, "page 5"),
-            (23..=25, "chunk 5"),
-            (34..=37, "page 5"),
-            (40..=41, "block at byte 5"),
-            (61..=61, "digit 5"),
-            (161..=161, "id 5"),
-        ];
         for reason in Reason::all() {
-            let number = reason.number();
+            let (number, place) = (reason.number(), reason.place_words());
             let said = said(reason, 5, None);
-            match places.iter().find(|(numbers, _)| numbers.contains(&number)) {
-                Some((_, place)) => {
-                    let start = format!("refused {number} at 5: ");
-                    assert!(said.starts_with(&start), "{said}");
-                    assert!(said.ends_with(&format!(" ({place})")), "{said}");
-                }
-                None => assert!(said.starts_with(&format!("refused {number}: ")), "{said}"),
+            if place.is_empty() {
+                assert!(said.starts_with(&format!("refused {number}: ")), "{said}");
+                assert!(!said.ends_with(" 5)"), "{said}");
+            } else {
+                let start = format!("refused {number} at 5: ");
+                assert!(said.starts_with(&start), "{said}");
+                assert!(said.ends_with(&format!(" ({place} 5)")), "{said}");
             }
         }
     }
