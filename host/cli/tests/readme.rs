@@ -1,5 +1,5 @@
 //! The commands of README.md give what stands under them, run one after the other in a copy of the
-//! samples. What goes to standard error stands after the rest.
+//! sample build. What goes to standard error stands after the rest.
 
 mod run;
 
@@ -35,9 +35,7 @@ fn commands(text: &str) -> Vec<(&str, String)> {
 fn the_commands_give_what_stands_under_them() {
     let repository = Path::new(env!("CARGO_MANIFEST_DIR")).join("../..");
     let folder = folder("readme");
-    for samples in ["sample", "samples"] {
-        copy_tree(&repository.join(samples), &folder.join(samples));
-    }
+    copy_tree(&repository.join("sample"), &folder.join("sample"));
     let text = fs::read_to_string(repository.join("README.md")).expect("it is there");
     let commands = commands(&text);
     assert!(

@@ -83,12 +83,12 @@ fn the_example_of_the_paper() {
     expect_text(&file.bytes, text);
 }
 
-/// The stored texts of the program's samples.
+/// The stored texts of the program.
 #[test]
-fn samples() {
-    let folder = Path::new(env!("CARGO_MANIFEST_DIR")).join("../../samples/listing");
-    let files = fs::read_dir(&folder).expect("the samples are there");
-    let mut tally = Tally::new("samples");
+fn stored_texts() {
+    let folder = Path::new(env!("CARGO_MANIFEST_DIR")).join("../../testdata/listing");
+    let files = fs::read_dir(&folder).expect("the folder is there");
+    let mut tally = Tally::new("stored texts");
     for file in files {
         let path = file.expect("the folder can be read").path();
         if path
@@ -97,7 +97,7 @@ fn samples() {
         {
             continue;
         }
-        let input = fs::read(&path).expect("the sample can be read");
+        let input = fs::read(&path).expect("the file can be read");
         let text = fs::read_to_string(path.with_extension("txt"));
         let text = text.unwrap_or_else(|error| panic!("the text of {}: {error}", path.display()));
         assert!(second::index::printed(&input) == text, "another text");

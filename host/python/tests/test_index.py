@@ -105,8 +105,8 @@ class Indexes(unittest.TestCase):
         self.assertEqual(Index.check(data).list_into(output), 27)
         self.assertEqual(output, b"".join(listed) + b"\xee" * 3)
 
-    def test_the_listing_is_that_of_the_samples(self) -> None:
-        texts = sorted((sample.REPOSITORY / "samples/listing").glob("*.txt"))
+    def test_the_listing_is_as_stored(self) -> None:
+        texts = sorted((sample.REPOSITORY / "testdata/listing").glob("*.txt"))
         listed = [path for path in texts if path.read_text().startswith("index ")]
         self.assertGreater(len(listed), 5)
         for path in listed:

@@ -86,6 +86,11 @@ impl Archives {
         name(&self.indexes[archive])
     }
 
+    /// The index of an archive.
+    pub fn index(&self, archive: usize) -> &[u8] {
+        &self.indexes[archive]
+    }
+
     /// The files of the archives and the indexes.
     pub fn files(&self) -> Vec<(String, Vec<u8>)> {
         let mut files = Vec::new();

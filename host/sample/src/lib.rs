@@ -5,6 +5,7 @@
 
 mod archive;
 mod content;
+mod damaged;
 mod manifest;
 mod worklist;
 
@@ -30,9 +31,16 @@ pub fn files() -> Vec<File> {
     ] {
         files.push((name.to_string(), text.into_bytes()));
     }
+    files.extend(damaged_indexes(&archives));
     files.extend(loose(&contents));
     files.extend(manifests(&contents));
     files
+}
+
+/// The index of the first archive with each damage.
+fn damaged_indexes(archives: &Archives) -> impl Iterator<Item = File> {
+    let damaged = damaged::damaged(archives.index(0)).into_iter();
+    damaged.map(|(damage, bytes)| (format!("damaged/{damage}.index"), bytes))
 }
 
 /// The envelopes of files that are in no archive.

@@ -7,6 +7,9 @@ use std::path::{Path, PathBuf};
 /// What is written by hand.
 const BY_HAND: &str = "README.md";
 
+/// What the names of damaged files begin with.
+const DAMAGED: &str = "damaged/";
+
 /// The repository's folder sample/.
 fn folder() -> PathBuf {
     Path::new(env!("CARGO_MANIFEST_DIR")).join("../../sample")
@@ -39,8 +42,24 @@ fn the_folder_is_what_the_program_makes() {
 }
 
 #[test]
-fn every_file_passes_the_checks_of_the_second_program() {
-    for (name, bytes) in sample::files() {
+fn the_damaged_indexes_are_refused() {
+    let files = sample::files().into_iter();
+    let damaged = files.filter(|(name, _)| name.starts_with(DAMAGED));
+    let refused: BTreeMap<_, _> = damaged
+        .map(|(name, bytes)| {
+            let refusal = second::index::check(&bytes).expect_err("it is damaged");
+            (name, (refusal.number, refusal.place))
+        })
+        .collect();
+    let expected = [("cut", 2), ("footer", 3), ("page", 6)];
+    let expected = expected.map(|(name, number)| (format!("{DAMAGED}{name}.index"), (number, 0)));
+    assert_eq!(refused, expected.into());
+}
+
+#[test]
+fn every_other_file_passes_the_checks_of_the_second_program() {
+    let files = sample::files().into_iter();
+    for (name, bytes) in files.filter(|(name, _)| !name.starts_with(DAMAGED)) {
         if name.ends_with(".index") {
             second::index::check(&bytes).unwrap_or_else(|refusal| panic!("{name}: {refusal:?}"));
         }
