@@ -1,6 +1,5 @@
 //! What all commands share: help, options, exit status, streams, names.
 
-mod forge;
 mod run;
 
 use std::ffi::OsStr;
@@ -8,6 +7,7 @@ use std::fs::{self, File};
 use std::os::unix::ffi::OsStrExt;
 use std::process::{Command, Stdio};
 
+use forge::counted;
 use run::{dwarnizza, folder, put, run, run_with};
 
 /// The names of all commands, by the usage.
@@ -130,11 +130,11 @@ fn wrong_usage() {
 #[test]
 fn operands() {
     let folder = folder("frame_operands");
-    let index = forge::index(forge::W4, 3, 0);
+    let index = counted::index(counted::W4, 3, 0);
     put(&folder, "--json", &index);
     run(&folder, ["index", "check", "--", "--json"]).expect(0, "ok\t--json\t1\t4\t16\t3\t1\n", &[]);
     run_with(&folder, ["index", "check", "-"], &index).expect(0, "ok\t-\t1\t4\t16\t3\t1\n", &[]);
-    let key = forge::key(1);
+    let key = counted::key(1);
     let found = format!("found\t{key}\t10\t-\t5\t--json\t-\n");
     run(&folder, ["index", "find", "--index=--json", &key]).expect(0, &found, &[]);
     run(&folder, ["index", "find", "--index", "--json", &key]).expect(0, &found, &[]);
@@ -144,15 +144,15 @@ fn operands() {
 #[test]
 fn worst_status() {
     let folder = folder("frame_worst");
-    put(&folder, "good", forge::index(forge::W4, 3, 0));
+    put(&folder, "good", counted::index(counted::W4, 3, 0));
     put(&folder, "short", "short");
     let check = |names: &[&str]| run(&folder, ["index", "check"].iter().chain(names)).status;
     assert_eq!(check(&["good", "good"]), 0);
     assert_eq!(check(&["short", "good"]), 2);
     assert_eq!(check(&["missing", "short", "good"]), 3);
     let find = |key: &str| run(&folder, ["index", "find", "--index", "good", key]).status;
-    assert_eq!(find(&forge::key(2)), 0);
-    assert_eq!(find(&forge::key(3)), 1);
+    assert_eq!(find(&counted::key(2)), 0);
+    assert_eq!(find(&counted::key(3)), 1);
     assert_eq!(find("00417"), 2);
 }
 
@@ -160,7 +160,7 @@ fn worst_status() {
 #[test]
 fn standard_output_that_fails() {
     let folder = folder("frame_full");
-    put(&folder, "index", forge::index(forge::W4, 3000, 0));
+    put(&folder, "index", counted::index(counted::W4, 3000, 0));
     for arguments in [
         &["index", "check", "index"][..],
         &["index", "list", "index"],
@@ -205,7 +205,7 @@ fn standard_error_that_fails() {
 #[test]
 fn a_closed_pipe_ends_quietly() {
     let folder = folder("frame_pipe");
-    put(&folder, "index", forge::index(forge::W4, 20_000, 0));
+    put(&folder, "index", counted::index(counted::W4, 20_000, 0));
     let mut command = dwarnizza(["index", "list", "index"]);
     let command = command
         .current_dir(&folder)
@@ -255,7 +255,7 @@ fn progress() {
         put(
             &folder,
             format!("{number}.index"),
-            forge::index(forge::W4, 3, 0),
+            counted::index(counted::W4, 3, 0),
         );
     }
     let piped = run(&folder, ["index", "check", "-r", "."]);

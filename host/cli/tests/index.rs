@@ -1,9 +1,8 @@
 //! `dwarnizza index` check, info and diff.
 
-mod forge;
 mod run;
 
-use forge::{W4, W6, index, key, list};
+use forge::counted::{self, W4, W6, index, key, list};
 use run::{folder, held, put, run};
 use second::index::Settings;
 
@@ -68,7 +67,7 @@ fn info() {
     let folder = folder("index_info");
     put(&folder, "index", index(W6, 158, 0));
     put(&folder, "none", index(W4, 0, 0));
-    let [name, none] = [index(W6, 158, 0), index(W4, 0, 0)].map(|index| forge::name(&index));
+    let [name, none] = [index(W6, 158, 0), index(W4, 0, 0)].map(|index| counted::name(&index));
     let lines = format!(
         "info\tindex\t1\t6\t16\t158\t2\t8268\t{name}\t{}\t{}\t11\ninfo\tnone\t1\t4\t16\t0\t0\t28\t{none}\t-\t-\t9\n",
         key(0),
@@ -84,8 +83,8 @@ fn diff() {
     let mut changed = entries.clone();
     changed[4 * 24 + 19] ^= 1;
     changed.drain(24..48);
-    put(&folder, "old", forge::of_list(W4, &entries[..5 * 24]));
-    put(&folder, "new", forge::of_list(W4, &changed));
+    put(&folder, "old", counted::of_list(W4, &entries[..5 * 24]));
+    put(&folder, "new", counted::of_list(W4, &changed));
     let lines = format!(
         "removed\t{}\t10\t-\t5\nchanged\t{}\t19\t-\t20\t18\t-\t20\nadded\t{}\t22\t-\t25\n",
         key(1),
@@ -108,7 +107,7 @@ fn diff() {
     put(
         &folder,
         "short",
-        forge::of_list(short, &[5, 0, 0, 0, 7, 0, 0, 0, 9]),
+        counted::of_list(short, &[5, 0, 0, 0, 7, 0, 0, 0, 9]),
     );
     run(&folder, ["index", "diff", "old", "short"]).expect(
         2,

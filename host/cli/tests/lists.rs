@@ -1,11 +1,10 @@
 //! `dwarnizza index` list and write.
 
-mod forge;
 mod run;
 
 use std::path::Path;
 
-use forge::{W4, W6, index, key, list};
+use forge::counted::{self, W4, W6, index, key, list};
 use run::{folder, held, holds, put, run, run_with};
 use second::index::Settings;
 
@@ -60,9 +59,9 @@ fn list_then_write() {
             offset_width,
             key_length,
         };
-        let file = forge::of_list(settings, &rising_list(settings, entries));
+        let file = counted::of_list(settings, &rising_list(settings, entries));
         put(&folder, "index", &file);
-        let line = format!("written\tagain\t{}\t{}\n", file.len(), forge::name(&file));
+        let line = format!("written\tagain\t{}\t{}\n", file.len(), counted::name(&file));
         run(&folder, ["index", "list", "index", "-o", "text", "--force"]).expect(0, "", &[]);
         let write = ["index", "write", "text", "-o", "again", "--force"];
         assert_eq!(run(&folder, write).lines, line);
@@ -263,15 +262,15 @@ fn a_list_is_judged_before_its_end() {
 fn a_changed_name_is_said() {
     let folder = folder("index_renamed");
     let old = index(W4, 2, 0);
-    let file = format!("{}.index", forge::name(&old));
+    let file = format!("{}.index", counted::name(&old));
     put(&folder, &file, &old);
     put(&folder, "new", index(W4, 3, 0));
     run(&folder, ["index", "list", "new", "-o", "list"]).expect(0, "", &[]);
-    let name = forge::name(&index(W4, 3, 0));
+    let name = counted::name(&index(W4, 3, 0));
     let written = run(&folder, ["index", "write", "list", "-o", &file, "--force"]);
     let changed = format!(
         "the MD5 of its footer was {} and is {name}",
-        forge::name(&old)
+        counted::name(&old)
     );
     let by_footer = format!("by its footer its name is {name}.index, and not {file}");
     written.expect(

@@ -1,12 +1,11 @@
 //! Mirrors: folders, lists of files, names and archives.
 
-mod forge;
 mod run;
 
 use std::fs;
 use std::path::Path;
 
-use forge::{W4, W6, index, key};
+use forge::counted::{self, W4, W6, index, key};
 use run::{Run, copy_tree, folder, put, run, run_with, sample};
 
 /// Some indexes in folders, beside files that are none.
@@ -64,7 +63,7 @@ fn many_files() {
 fn names() {
     let folder = folder("mirror_names");
     let indexes = [2, 3, 4, 5].map(|entries| index(W4, entries, 0));
-    let names = indexes.each_ref().map(|index| forge::name(index));
+    let names = indexes.each_ref().map(|index| counted::name(index));
     put(&folder, format!("{}.index", names[0]), &indexes[0]);
     // The next two have each other's name; the last has a name of no file.
     put(&folder, format!("{}.index", names[1]), &indexes[2]);
@@ -138,7 +137,7 @@ fn names_of_refused_indexes() {
     put(&folder, "page.index", page);
     let lines = format!(
         "refused\tfooter.index\t3\t0\nrefused\tpage.index\t6\t0\nmisnamed\tpage.index\t{}\t-\n",
-        forge::name(&good)
+        counted::name(&good)
     );
     let check = ["index", "check", "--names", "footer.index", "page.index"];
     run(&folder, check).expect(2, &lines, &["0 ok, 2 refused, 0 not read; 1 misnamed"]);

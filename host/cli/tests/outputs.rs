@@ -1,13 +1,12 @@
 //! Output files: there whole or not at all.
 
-mod forge;
 mod run;
 
 use std::fs;
 use std::path::Path;
 use std::process::Command;
 
-use forge::{W4, index};
+use forge::counted::{W4, index};
 use run::{folder, held, holds, put, run};
 
 /// An existing file stays unless `--force`, and no other file is left.

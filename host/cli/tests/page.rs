@@ -1,13 +1,13 @@
 //! docs/TOOL.md names the fields of every answer: the objects that commands print have these, in
 //! this order.
 
-mod forge;
 mod run;
 
 use std::collections::{BTreeMap, BTreeSet};
 use std::fs;
 use std::path::{Path, PathBuf};
 
+use forge::counted;
 use run::{copy_tree, folder, put, run, sample};
 
 /// The answers of the page, by command and word, each with its fields.
@@ -59,9 +59,9 @@ fn object(line: &str) -> (String, Vec<String>) {
 fn build() -> PathBuf {
     let folder = folder("page");
     copy_tree(&sample(), &folder);
-    put(&folder, "old", forge::index(forge::W4, 2, 0));
-    put(&folder, "more", forge::index(forge::W4, 3, 0));
-    put(&folder, "changed", forge::index(forge::W4, 3, 1));
+    put(&folder, "old", counted::index(counted::W4, 2, 0));
+    put(&folder, "more", counted::index(counted::W4, 3, 0));
+    put(&folder, "changed", counted::index(counted::W4, 3, 1));
     // The archive of the index `old`, which is cut.
     put(&folder, "short/old", "x");
     put(&folder, "list", "00000000000000000000000000000000  old\n");

@@ -1,13 +1,13 @@
 //! What is said of indexes that are refused, and how much is read of them.
 
-mod forge;
 mod run;
 
 use std::fs::{self, File};
 use std::os::unix::fs::FileExt;
 use std::path::Path;
 
-use forge::{W4, index};
+use forge::counted::{W4, index, list};
+use forge::faults::index::IndexFile;
 use run::{folder, put, run, run_from_file, run_in_2_gb};
 
 /// These bytes are refused with these words.
@@ -18,12 +18,6 @@ fn expect_words(folder: &Path, bytes: &[u8], words: &str) {
     let said = &refused.errors;
     assert!(said.contains(words), "{words}\n{said}");
     assert_eq!(refused.status, 2);
-}
-
-/// The first eight bytes of a digest.
-fn hash(bytes: &[u8]) -> [u8; 8] {
-    let digest = second::md5::digest(bytes).expect("it is short");
-    *digest.first_chunk().expect("it has more")
 }
 
 /// These bytes with another at this place.
@@ -88,9 +82,9 @@ fn words_of_footers() {
     let good = index(W4, 400, 0);
     let end = good.len();
     // With offset width 0, and the footer's hash right.
-    let mut loose = with(&good, end - 16, 0);
-    let hashed = [&loose[end - 20..end - 8], &[0; 8]].concat();
-    loose[end - 8..].copy_from_slice(&hash(&hashed));
+    let mut loose = IndexFile::new(W4, &list(W4, 400, 0));
+    loose.footer()[12] = 0;
+    loose.fix_footer_hash();
     for (bytes, words) in [
         (
             &b"\x07short"[..],
@@ -101,7 +95,7 @@ fn words_of_footers() {
             "refused 2: a footer field outside its list; its last bytes are no footer",
         ),
         (
-            &loose,
+            &loose.bytes,
             "refused 2: a footer field outside its list; by its footer it is an index of loose files or of patches",
         ),
         (
@@ -124,11 +118,10 @@ fn words_of_pages() {
     let good = index(W4, 400, 0);
     // With the hash of page 1 of 3 set right again.
     let rehashed = |at: usize, byte: u8| {
-        let mut bytes = with(&good, at, byte);
-        let hash = hash(&bytes[4096..2 * 4096]);
-        let stored = 3 * (4096 + 16) + 8;
-        bytes[stored..stored + 8].copy_from_slice(&hash);
-        bytes
+        let mut file = IndexFile::new(W4, &list(W4, 400, 0));
+        file.bytes[at] = byte;
+        file.fix_page_hash(1);
+        file.bytes
     };
     for (bytes, words) in [
         (

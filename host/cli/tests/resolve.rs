@@ -1,10 +1,10 @@
 //! `dwarnizza resolve`, on the sample build.
 
-mod forge;
 mod run;
 
 use std::fs;
 
+use forge::counted;
 use run::{dwarnizza, expect, folder, output, sample};
 
 /// The options that name the files, with this root file and these indexes.
@@ -220,7 +220,7 @@ fn an_index_of_other_keys() {
         offset_width: 4,
         key_length: 9,
     };
-    fs::write(folder.join("nine.index"), forge::of_list(nine, &[])).expect("it can be written");
+    fs::write(folder.join("nine.index"), counted::of_list(nine, &[])).expect("it can be written");
     let mut arguments = build("root-v1", "nine.index");
     arguments.extend(["417", "9001"]);
     let lines = "refused\t417\t-\t10\t0\nabsent\t9001\tencoding\t-\n";

@@ -1,11 +1,10 @@
 //! Many keys in many indexes: however they are searched, the first index that has a key answers.
 
-mod forge;
 mod run;
 
 use std::path::Path;
 
-use forge::{W4, index, key, list, of_list};
+use forge::counted::{W4, index, key, list, of_list};
 use run::{Run, folder, put, run};
 use second::index::Settings;
 

@@ -1,11 +1,10 @@
 //! Worklists: every row of a list comes back once, and none is misread.
 
-mod forge;
 mod run;
 
 use std::path::Path;
 
-use forge::{W4, index, key};
+use forge::counted::{W4, index, key};
 use run::{Run, folder, put, run, sample};
 
 /// Finds the keys of a worklist of these bytes in an index of three entries.

@@ -1,13 +1,12 @@
 //! Lists that Python's csv module wrote in all its dialects: the tool answers every row once, by what
 //! was meant, and its counts add up.
 
-mod forge;
 mod run;
 mod written;
 
 use std::path::Path;
 
-use forge::{W4, index, key};
+use forge::counted::{W4, index, key};
 use run::{folder, put, run};
 use written::Written;
 

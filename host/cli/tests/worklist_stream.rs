@@ -1,6 +1,5 @@
 //! Answers of worklists come as soon as they are known, and progress is shown in every phase.
 
-mod forge;
 mod run;
 
 use std::fs::File;
@@ -10,7 +9,7 @@ use std::process::{Command, Stdio};
 use std::thread;
 use std::time::Duration;
 
-use forge::{W4, index, key};
+use forge::counted::{W4, index, key};
 use run::{dwarnizza, folder, put, sample};
 
 /// A folder with an index and a pipe that nobody writes to, which stands for one that takes long.

@@ -1,8 +1,6 @@
 //! Files that passed their full check: each call gives what the call on the bytes gives.
 
 mod compare;
-mod forge;
-mod random;
 
 use std::ptr;
 
@@ -10,15 +8,14 @@ use compare::refusal_at;
 use dwarnizza::chain::Resolved;
 use dwarnizza::index::{Entry, Lookup, Page, Settings, Slot, entry_bytes};
 use dwarnizza::{Build, Encoding, Envelope, Index, Link, Reason, Root, UncheckedBuild};
-use forge::{IndexFile, all_settings, keys, random_list};
-use random::Random;
-use second::encoding::{ContentEntry, Parts, TableParts};
-use second::root::{BlockParts, Record};
+use forge::faults::index::{IndexFile, all_settings, keys, random_list};
+use forge::random::Random;
+use forge::small;
 
 /// Each entry of indexes of every layout, by number, by place and by its key.
 #[test]
 fn entries_of_indexes() {
-    let mut random = Random::new();
+    let mut random = Random::of_test();
     for settings in all_settings() {
         let full = settings.entries_per_page();
         for count in [0, 1, full, full + 1, 2 * full + 7] {
@@ -49,7 +46,7 @@ fn entries_of_indexes() {
 /// The parts of each page, against the second program's layout.
 #[test]
 fn pages_of_indexes() {
-    let mut random = Random::new();
+    let mut random = Random::of_test();
     for settings in all_settings() {
         let full = settings.entries_per_page();
         let count = (2 * full + 7).min(keys(settings));
@@ -108,29 +105,9 @@ fn both_kinds_of_lookup() {
     assert_eq!(index.find([5, 0]), Err(refused));
 }
 
-/// A file of the content key 00 05 with the encoding keys a1 and a2, and of these.
-fn encoding_file() -> Vec<u8> {
-    second::encoding::write(&Parts {
-        specs: b"n\0zz\0".to_vec(),
-        content: TableParts {
-            key_size: 2,
-            page_kb: 1,
-            pages: vec![vec![2, 1, 2, 3, 4, 5, 0, 5, 0xa1, 0xa2]],
-        },
-        encoding: TableParts {
-            key_size: 1,
-            page_kb: 1,
-            pages: vec![vec![
-                0xa1, 0, 0, 0, 1, 6, 7, 8, 9, 10, 0xa2, 0, 0, 0, 0, 0, 0, 0, 0, 0,
-            ]],
-        },
-        own_spec: Vec::new(),
-    })
-}
-
 #[test]
 fn parts_of_an_encoding_file() {
-    let file = encoding_file();
+    let file = second::encoding::write(&small::encoding_parts());
     let encoding = Encoding::check(&file).unwrap();
     let content = encoding.find_content([0, 5]).unwrap().unwrap();
     assert_eq!((content.size, content.count), (0x01_0203_0405, 2));
@@ -139,8 +116,8 @@ fn parts_of_an_encoding_file() {
     let encoded = encoding.find_encoding([0xa1]).unwrap().unwrap();
     assert_eq!((encoded.spec_number, encoded.size), (1, 0x06_0708_090a));
     assert_eq!(encoding.find_encoding([0xa0]), Ok(None));
-    // The same bytes, not only equal ones: header, specs, then a page's first key and MD5.
-    let keys = 22 + 5 + 2 + 16 + 8;
+    // The same bytes, not only equal ones: header, specs, then first key and MD5 of two pages.
+    let keys = 22 + 5 + 2 * (2 + 16) + 8;
     assert!(ptr::eq(content.encoding_keys, &file[keys..keys + 2]));
     assert!(ptr::eq(encoded.spec, encoding.spec(1).unwrap()));
     assert!(ptr::eq(encoded.spec, &file[24..26]));
@@ -167,54 +144,16 @@ fn content_of_an_envelope() {
 }
 
 /// Files in which the id 5 is in the index, the id 6 is missing in it, the id 7 in the encoding
-/// file and all others in the root file. The locale is 2, the content flag 4.
+/// file and all others in the root file.
 fn build_files() -> [Vec<u8>; 3] {
-    let records = [0x51, 0x61, 0x71].map(|key| Record {
-        delta: if key == 0x51 { 5 } else { 0 },
-        key: [key; 16],
-        name_hash: [0; 8],
-    });
-    let block = BlockParts {
-        locale: 2,
-        content: 4,
-        unknown: [0; 5],
-        records: records.to_vec(),
-    };
     let settings = Settings {
         version: 1,
         offset_width: 6,
         key_length: 1,
     };
     let list = [0xa4, 0xa5].map(|key| entry_bytes(settings, [key], 7, 3, 9).unwrap());
-    [
-        second::root::write(None, &[block]),
-        build_encoding(),
-        Index::write(settings, &list.concat()).unwrap(),
-    ]
-}
-
-/// The content keys 51 and 61 have the encoding keys a5 and a6, and a4 besides.
-fn build_encoding() -> Vec<u8> {
-    let entry = |key, encoding_key| {
-        ContentEntry {
-            count: 2,
-            size: 7,
-            key: &[key; 16],
-            encoding_keys: &[encoding_key, 0xa4],
-        }
-        .bytes()
-    };
-    let table = |key_size, page| TableParts {
-        key_size,
-        page_kb: 1,
-        pages: vec![page],
-    };
-    second::encoding::write(&Parts {
-        specs: b"n\0".to_vec(),
-        content: table(16, [entry(0x51, 0xa5), entry(0x61, 0xa6)].concat()),
-        encoding: table(1, vec![0xa5, 0, 0, 0, 0, 0, 0, 0, 0, 7]),
-        own_spec: Vec::new(),
-    })
+    let index = Index::write(settings, &list.concat()).unwrap();
+    [small::root(), small::encoding(16), index]
 }
 
 #[test]

@@ -1,8 +1,6 @@
 //! Encoding files: the library against the second program.
 
 mod compare;
-mod forge;
-mod random;
 
 use std::ops::Range;
 use std::ptr;
@@ -10,9 +8,9 @@ use std::ptr;
 use compare::{Tally, in_library_terms, refusal_at};
 use dwarnizza::encoding::{ContentEntry, EncodingEntry};
 use dwarnizza::{Encoding, Reason, Refusal};
-use forge::encoding::{BOTH, EncodingFile, Fault, KINDS, Kind};
-use forge::{beside, for_files_of};
-use random::Random;
+use forge::faults::encoding::{BOTH, EncodingFile, Fault, Kind};
+use forge::faults::index::beside;
+use forge::random::Random;
 use second::encoding::{HEADER, PADDING, Parts, TableParts, write};
 
 /// The full check by the library, after seeing that the second program gives the same.
@@ -183,7 +181,7 @@ fn expect_encoding_entries(file: &EncodingFile) {
 /// Each key of each file and the keys beside it, and keys of other lengths.
 #[test]
 fn every_pair_of_key_sizes() {
-    let mut random = Random::new();
+    let mut random = Random::of_test();
     let mut tally = Tally::new("lookups");
     let pairs = (1..=16).flat_map(|content| (1..=16).map(move |encoding| [content, encoding]));
     for key_lens in pairs {
@@ -297,7 +295,7 @@ fn with_faults(random: &mut Random, good: &EncodingFile, faults: &[Fault]) -> Ve
 /// Each fault is told, and of two in a file the one that is judged first.
 #[test]
 fn faults_in_their_order() {
-    let mut random = Random::new();
+    let mut random = Random::of_test();
     let mut tally = Tally::new("files with faults");
     tally.add(&compare_check(&EncodingFile::random(&mut random).bytes));
     while tally.count < 15_000 {
@@ -308,11 +306,11 @@ fn faults_in_their_order() {
         }
         for (number, &one) in faults.iter().enumerate() {
             let answer = compare_check(&with_faults(&mut random, &good, &[one]));
-            assert_eq!(answer, Err(one.refusal()), "{one:?}");
+            assert_eq!(answer, Err(in_library_terms(one.refusal())), "{one:?}");
             for &other in &faults[number + 1..] {
                 let answer = compare_check(&with_faults(&mut random, &good, &[one, other]));
-                let first = one.min(other);
-                assert_eq!(answer, Err(first.refusal()), "{one:?} and {other:?}");
+                let first = in_library_terms(one.min(other).refusal());
+                assert_eq!(answer, Err(first), "{one:?} and {other:?}");
                 tally.add(&answer);
             }
         }
@@ -401,56 +399,4 @@ fn every_byte() {
         }
     }
     tally.print(30..=38);
-}
-
-/// Good files and files with random faults of every kind: the full check, lookups of keys that
-/// stand there, of their neighbours and of others, and specs.
-#[test]
-fn hundred_thousand_files() {
-    let mut checks = Tally::new("files");
-    let mut lookups = Tally::new("lookups");
-    let mut found = 0;
-    for_files_of(
-        &KINDS,
-        100_000,
-        EncodingFile::random,
-        |random, good, file| {
-            checks.add(&compare_check(file));
-            for kind in BOTH {
-                for _ in 0..4 {
-                    let answer = compare_lookup(file, kind, &any_key(random, good, kind));
-                    found += u64::from(answer == Ok(true));
-                    lookups.add(&answer);
-                }
-            }
-            let _ = compare_spec(file, random.up_to(7) as u32);
-        },
-    );
-    checks.print(30..=38);
-    lookups.print([30, 31, 32, 33, 35, 38, 39]);
-    println!("{found} of the keys found");
-    assert!(found > 10_000);
-}
-
-/// A key of the good file, one beside it, one of padding, any, or one of another length.
-fn any_key(random: &mut Random, good: &EncodingFile, kind: Kind) -> Vec<u8> {
-    let entries = good.entries(kind).len();
-    let number = match random.up_to(3) {
-        0 => 0,
-        1 => entries - 1,
-        _ => random.up_to(entries - 1),
-    };
-    let key = good.bytes[good.key(kind, number)].to_vec();
-    match random.up_to(11) {
-        0 => beside(&key, 1),
-        1 => beside(&key, -1),
-        2 => vec![0; key.len()],
-        3 => vec![255; key.len()],
-        4 => random.bytes(key.len()),
-        5 => {
-            let length = random.up_to(17);
-            random.bytes(length)
-        }
-        _ => key,
-    }
 }

@@ -1,14 +1,12 @@
 //! Single entries, of an index by its number and of a list: the library against the second program.
 
 mod compare;
-mod forge;
-mod random;
 
-use compare::{Tally, compare_outputs, in_library_settings, in_library_terms, room};
+use compare::{compare_outputs, in_library_settings, in_library_terms};
 use dwarnizza::index::{IndexEntry, Page, Slot, entry_bytes_into};
 use dwarnizza::{Index, Reason, Refusal};
-use forge::{IndexFile, all_settings, for_spoilt_files, keys, random_list};
-use random::Random;
+use forge::faults::index::{IndexFile, all_settings, keys, random_list, settings};
+use forge::random::Random;
 use second::index::Settings;
 
 /// An entry by the second program, as the library has it.
@@ -70,7 +68,7 @@ fn compare_put(settings: Settings, parts: &Parts, room: usize) -> Result<Vec<u8>
 /// is told of it.
 #[test]
 fn entries_are_those_of_the_list() {
-    let mut random = Random::new();
+    let mut random = Random::of_test();
     let mut entries = 0;
     for settings in all_settings() {
         let full = settings.entries_per_page();
@@ -99,74 +97,6 @@ fn entries_are_those_of_the_list() {
     println!("{entries} entries");
 }
 
-/// Good files and files with random faults of every kind, and numbers up to the last and past it.
-#[test]
-fn entries_of_spoilt_files() {
-    let mut tally = Tally::new("entries");
-    for_spoilt_files(60_000, |random, file| {
-        let number = match random.up_to(5) {
-            0 => random.word(),
-            1 => random.up_to(1 << 32) as u64,
-            _ => random.up_to(400) as u64,
-        };
-        tally.add(&compare_entry(file, number));
-    });
-    tally.print([1, 2, 3, 5]);
-}
-
-/// A number of up to so many bits, or one beside a power of two.
-fn number(random: &mut Random, bits: u32) -> u64 {
-    let power = 1u64.checked_shl(random.up_to(bits as usize) as u32);
-    match (random.up_to(2), power) {
-        (0, _) => random.word() >> (64 - bits),
-        (1, Some(power)) => power - 1,
-        (_, power) => power.unwrap_or(u64::MAX),
-    }
-}
-
-fn random_parts(random: &mut Random, settings: Settings) -> Parts {
-    let key = match random.up_to(9) {
-        0 => random.up_to(17),
-        _ => settings.key_len(),
-    };
-    let archive = match random.up_to(2) {
-        0 => number(random, 18) as u32,
-        1 => random.up_to(65_536) as u32,
-        _ => 0,
-    };
-    let bits = [33, 41, 64][random.up_to(2)];
-    Parts {
-        key: random.bytes(key),
-        size: random.word() as u32,
-        archive,
-        offset: number(random, bits),
-    }
-}
-
-#[test]
-fn a_hundred_thousand_entries_of_lists() {
-    let mut random = Random::new();
-    let mut tally = Tally::new("entries of lists");
-    for _ in 0..150_000 {
-        let mut settings = Settings {
-            version: random.up_to(1) as u32,
-            offset_width: 4 + random.up_to(2) as u32,
-            key_length: 1 + random.up_to(15) as u32,
-        };
-        match random.up_to(30) {
-            0 => settings.version = random.up_to(255) as u32,
-            1 => settings.offset_width = random.up_to(255) as u32,
-            2 => settings.key_length = random.up_to(255) as u32,
-            3 => settings.offset_width = 3 + 4 * random.up_to(1) as u32,
-            _ => {}
-        }
-        let parts = random_parts(&mut random, settings);
-        let room = room(&mut random, settings.entry_len());
-        tally.add(&compare_put(settings, &parts, room));
-    }
-    tally.print([10, 11, 13]);
-}
-
 /// The highest archive number and offset of each offset width, and one more.
 #[test]
 fn the_highest_locations() {
@@ -175,7 +105,7 @@ fn the_highest_locations() {
         (5, 0, (1 << 40) - 1),
         (6, 65_535, u64::from(u32::MAX)),
     ] {
-        let settings = forge::settings(2, width);
+        let settings = settings(2, width);
         let good = Parts {
             key: vec![7; 2],
             size: 5,

@@ -1,9 +1,6 @@
 //! File numbers: the library against the second program, and against decimal text by Rust.
 
-mod random;
-
 use dwarnizza::{NotFileNumber, NumberFault, file_number};
-use random::Random;
 use second::file_number::Fault;
 
 /// What a text is by the library, after seeing that the second program says the same, and that a
@@ -107,24 +104,6 @@ fn every_byte() {
             let number = digit && byte != b'0' && other.is_ascii_digit();
             assert_eq!(compare(&[byte, other]).is_ok(), number);
         }
-    }
-}
-
-#[test]
-fn a_hundred_thousand_texts() {
-    let mut random = Random::new();
-    for _ in 0..100_000 {
-        let number = random.word() as u32 >> random.up_to(31);
-        let mut text = number.to_string().into_bytes();
-        assert_eq!(compare(&text), Ok(number));
-        let place = random.up_to(text.len() - 1);
-        match random.up_to(3) {
-            0 => text[place] = random.word() as u8,
-            1 => text.insert(place, b"0123456789"[random.up_to(9)]),
-            2 => drop(text.remove(place)),
-            _ => text = random.bytes(place),
-        }
-        let _ = compare(&text);
     }
 }
 

@@ -1,15 +1,12 @@
 //! Many ids of a root file: the library against single lookups and against the second program.
 
 mod compare;
-mod forge;
-mod random;
 mod raw;
 
-use compare::{Tally, compare_outputs, in_library_terms, refusal_at, room};
+use compare::{compare_outputs, in_library_terms, refusal_at};
 use dwarnizza::{Reason, Refusal, Root};
-use forge::for_files_of;
-use forge::root::{KINDS, RootFile, random_masks};
-use random::Random;
+use forge::faults::root::{RootFile, random_masks};
+use forge::random::Random;
 use second::root::{BlockParts, Record};
 
 /// How many bytes are written for each id.
@@ -119,7 +116,7 @@ fn the_first_fall_is_told() {
 /// The root's own refusals, 12, 161 and 13 are told in this order.
 #[test]
 fn refusals_in_their_order() {
-    let good = RootFile::random(&mut Random::new()).bytes;
+    let good = RootFile::random(&mut Random::of_test()).bytes;
     let falling = bytes_of(&[3, 2]);
     let torn = [&falling[..], &[0]].concat();
     for (file, ids, number) in [
@@ -135,28 +132,13 @@ fn refusals_in_their_order() {
     }
 }
 
+/// Files of every layout: what single lookups give, in one call.
 #[test]
-fn many_ids_in_files_of_every_kind() {
-    let mut tally = Tally::new("lists");
-    let mut found = 0;
-    for_files_of(&KINDS, 100_000, RootFile::random, |random, good, file| {
-        let (ids, masks) = (random_ids(random, good), random_masks(random));
-        see_wrapper(file, &ids, masks);
-        let mut list = bytes_of(&ids);
-        if random.up_to(7) == 0 {
-            let rest = 1 + random.up_to(2);
-            list.extend(random.bytes(rest));
-        }
-        let room = room(random, FOUND * ids.len());
-        let answer = compare(file, &list, masks, room);
-        tally.add(&answer);
-        let answers = answer.unwrap_or_default();
-        found += answers
-            .chunks(FOUND)
-            .filter(|answer| answer[0] == 1)
-            .count();
-    });
-    tally.print([12, 13, 40, 41, 161]);
-    println!("{found} of the ids found");
-    assert!(found > 10_000);
+fn many_ids_and_single_lookups() {
+    let mut random = Random::of_test();
+    for _ in 0..5_000 {
+        let file = RootFile::random(&mut random);
+        let (ids, masks) = (random_ids(&mut random, &file), random_masks(&mut random));
+        see_wrapper(&file.bytes, &ids, masks);
+    }
 }

@@ -1,18 +1,17 @@
 //! Archive indexes by the library against the second program.
 
 mod compare;
-mod forge;
-mod random;
 mod raw;
 
-use compare::{Tally, compare_outputs, in_library_settings, in_library_terms, refusal_at, room};
+use compare::{compare_outputs, in_library_settings, in_library_terms, refusal_at};
 use dwarnizza::index::{CheckedIndex, Summary};
 use dwarnizza::{Index, Reason, Refusal};
-use forge::{
-    COUNT, FOOTER_HASH, Fault, HASH_LENGTH, IndexFile, VERSION, all_settings, counted_list, flip,
-    for_spoilt_files, keys, neighbour_lists, random_list, settings,
+use forge::faults::flip;
+use forge::faults::index::{
+    COUNT, FOOTER_HASH, Fault, HASH_LENGTH, IndexFile, VERSION, all_settings, counted_list, keys,
+    neighbour_lists, random_list, settings,
 };
-use random::Random;
+use forge::random::Random;
 use second::index::{FOOTER, MOST_ENTRIES, PAGE};
 
 /// What the full check gives.
@@ -99,7 +98,7 @@ fn expect_refused(file: &[u8], reason: Reason, place: usize) {
 
 #[test]
 fn good_files_of_every_layout() {
-    let mut random = Random::new();
+    let mut random = Random::of_test();
     for settings in all_settings() {
         let full = settings.entries_per_page();
         let counts = [0, 1, full - 1, full, full + 1, 2 * full, 5 * full + 7];
@@ -135,7 +134,7 @@ fn all_keys_of_one_byte_and_more() {
 
 #[test]
 fn lengths_of_the_marked_examples() {
-    let mut random = Random::new();
+    let mut random = Random::of_test();
     for (entries, length) in [(0, 28), (1, 4148), (170, 4148), (171, 8268)] {
         let file = IndexFile::random(&mut random, settings(16, 4), entries);
         assert_eq!(file.bytes.len(), length);
@@ -164,7 +163,7 @@ fn the_zero_key_is_a_key() {
 /// All 256 values of each field, with the footer hash right and wrong.
 #[test]
 fn footer_fields() {
-    let mut random = Random::new();
+    let mut random = Random::of_test();
     for entries in [0, 1, 200] {
         let good = IndexFile::random(&mut random, settings(16, 4), entries);
         for field in VERSION..=HASH_LENGTH {
@@ -198,7 +197,7 @@ fn footer_fields() {
 
 #[test]
 fn the_footer_hash() {
-    let mut random = Random::new();
+    let mut random = Random::of_test();
     let good = IndexFile::random(&mut random, settings(9, 5), 3);
     for place in 0..FOOTER {
         for bit in 0..8 {
@@ -216,7 +215,7 @@ fn the_footer_hash() {
 
 #[test]
 fn the_entry_count_is_little_endian() {
-    let mut random = Random::new();
+    let mut random = Random::of_test();
     let mut file = IndexFile::random(&mut random, settings(2, 4), 0x0102);
     assert_eq!(file.footer()[COUNT], [2, 1, 0, 0]);
     expect_good(&file);
@@ -237,7 +236,7 @@ fn the_limit_of_entries() {
     ] {
         empty.set_count(count);
         expect_refused(&empty.bytes, number, 0);
-        flip(&mut Random::new(), &mut empty.footer()[FOOTER_HASH]);
+        flip(&mut Random::of_test(), &mut empty.footer()[FOOTER_HASH]);
         expect_refused(&empty.bytes, Reason::FooterHash, 0);
     }
 
@@ -257,7 +256,7 @@ fn the_limit_of_entries() {
 /// The start and the end of an index, of every length below its own.
 #[test]
 fn every_cut() {
-    let mut random = Random::new();
+    let mut random = Random::of_test();
     let good = IndexFile::random(&mut random, settings(16, 4), 171).bytes;
     for length in 0..good.len() {
         let (start, end) = (&good[..length], &good[good.len() - length..]);
@@ -275,7 +274,7 @@ fn every_cut() {
 
 #[test]
 fn lengths_beside_the_right_one() {
-    let mut random = Random::new();
+    let mut random = Random::of_test();
     for entries in [0, 1, 170, 171] {
         let good = IndexFile::random(&mut random, settings(16, 4), entries);
         let (contents, footer) = good.bytes.split_at(good.bytes.len() - FOOTER);
@@ -300,7 +299,7 @@ fn lengths_beside_the_right_one() {
 /// The number of pages stays, and a page's entries end earlier or later.
 #[test]
 fn another_count_on_the_same_pages() {
-    let mut random = Random::new();
+    let mut random = Random::of_test();
     for settings in all_settings().filter(|settings| settings.key_length > 1) {
         let full = settings.entries_per_page();
         let mut file = IndexFile::random(&mut random, settings, full + 2);
@@ -317,7 +316,7 @@ fn another_count_on_the_same_pages() {
 /// Refusals 1 to 6 with one or more of the next behind each.
 #[test]
 fn the_order_before_the_pages() {
-    let mut random = Random::new();
+    let mut random = Random::of_test();
     let mut file = IndexFile::random(&mut random, settings(16, 4), 171);
     file.put_faults(&mut random, &[Fault::PageHash(0), Fault::LastKey(0)]);
     expect_refused(&file.bytes, Reason::IndexPageHash, 0);
@@ -339,7 +338,7 @@ fn the_order_before_the_pages() {
 /// Each fault of a page or an entry alone and with each other, on three pages.
 #[test]
 fn the_order_in_the_pages() {
-    let mut random = Random::new();
+    let mut random = Random::of_test();
     for settings in [settings(16, 4), settings(2, 5), settings(9, 6)] {
         let full = settings.entries_per_page();
         let good = IndexFile::random(&mut random, settings, 2 * full + 20);
@@ -397,7 +396,7 @@ fn turn(file: &IndexFile, fault: Fault) -> (usize, Reason, usize) {
 /// Each byte of a stored hash, of a stored last key and of padding counts.
 #[test]
 fn each_byte_counts() {
-    let mut random = Random::new();
+    let mut random = Random::of_test();
     let settings = settings(10, 5);
     let entries = 2 * settings.entries_per_page() - 5;
     let good = IndexFile::random(&mut random, settings, entries);
@@ -448,27 +447,4 @@ fn keys_are_compared_whole_and_unsigned() {
             expect_refused(&file.bytes, Reason::IndexOrder, first);
         }
     }
-}
-
-/// Holds the two programs against each other on one file.
-fn compare(tally: &mut Tally, random: &mut Random, file: &[u8]) {
-    let answer = second_check(file);
-    assert_eq!(check(file), answer);
-    assert_eq!(Index::unchecked(file).summary(), second_summary(file));
-    tally.add(&answer);
-    let room = match list_len(file) {
-        Some(length) => room(random, length),
-        None => random.up_to(5000),
-    };
-    if compare_list(file, room).is_err() && answer.is_ok() {
-        tally.add_refusal(Reason::OutputShort);
-    }
-}
-
-/// Good files and files with random faults of every kind.
-#[test]
-fn a_hundred_thousand_files() {
-    let mut tally = Tally::new("files");
-    for_spoilt_files(120_000, |random, file| compare(&mut tally, random, file));
-    tally.print((1..=9).chain([13]));
 }

@@ -1,11 +1,10 @@
 //! Key text: the library against the second program.
 
 mod compare;
-mod random;
 
 use compare::{Tally, in_library_terms, refusal_at};
 use dwarnizza::{Key, Reason, Refusal};
-use random::Random;
+use forge::random::Random;
 
 /// The key of a text by the library, after seeing that the second program gives the same.
 #[track_caller]
@@ -76,7 +75,7 @@ fn every_byte() {
 /// All characters at each place of a text, for each key length.
 #[test]
 fn every_character_at_every_place() {
-    let mut random = Random::new();
+    let mut random = Random::of_test();
     let mut tally = Tally::new("texts with a chosen character");
     for key_length in 1..=16 {
         let length = 2 * usize::from(key_length);
@@ -98,7 +97,7 @@ fn every_character_at_every_place() {
 /// All lengths of a text up to 40 for all key lengths: 11, then 60, whatever the characters.
 #[test]
 fn every_length() {
-    let mut random = Random::new();
+    let mut random = Random::of_test();
     let mut tally = Tally::new("texts of each length");
     for key_length in 0..=u8::MAX {
         for length in 0..=40 {
@@ -122,32 +121,6 @@ fn every_length() {
         }
     }
     tally.print([11, 60]);
-}
-
-#[test]
-fn a_hundred_thousand_texts() {
-    const TEXTS: u64 = 100_000;
-
-    let mut random = Random::new();
-    let mut tally = Tally::new("random texts");
-    while tally.count < TEXTS {
-        let key_length = random.up_to(17) as u8;
-        let mut length = 2 * usize::from(key_length);
-        if random.up_to(3) == 0 {
-            length = random.up_to(40);
-        }
-        let mut text = digits(&mut random, length);
-        for _ in 0..random.up_to(2).min(length) {
-            let place = random.up_to(length - 1);
-            // Characters beside the digits are the likeliest to be taken for one.
-            text[place] = match random.up_to(1) {
-                0 => b"/:@G`g"[random.up_to(5)],
-                _ => random.word() as u8,
-            };
-        }
-        tally.add(&compare(&text, key_length));
-    }
-    tally.print([11, 60, 61]);
 }
 
 /// So many hex digits of either case.

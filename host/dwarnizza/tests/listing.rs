@@ -1,16 +1,14 @@
 //! The listing: the library against the second program and against stored texts.
 
 mod compare;
-mod forge;
-mod random;
 
 use std::fs;
 use std::path::Path;
 
-use compare::{Tally, compare_outputs, in_library_terms, reason, refusal_at, room};
+use compare::{Tally, compare_outputs, in_library_terms, reason, refusal_at};
 use dwarnizza::{Index, Reason, Refusal};
-use forge::{IndexFile, all_settings, counted_list, for_spoilt_files, keys, random_list, settings};
-use random::Random;
+use forge::faults::index::{IndexFile, all_settings, counted_list, keys, random_list, settings};
+use forge::random::Random;
 use second::index::{FOOTER, MOST_LISTED, PAGE, Settings};
 
 /// A text, or a refusal.
@@ -113,7 +111,7 @@ fn stored_texts() {
 
 #[test]
 fn every_layout() {
-    let mut random = Random::new();
+    let mut random = Random::of_test();
     for settings in all_settings() {
         let full = settings.entries_per_page();
         let counts = [0, 1, full - 1, full, full + 1, 3 * full + 7];
@@ -192,7 +190,7 @@ fn digits_of_keys() {
 /// 65,536 bytes are listed; no index has just so many. One byte more is not, whatever it holds.
 #[test]
 fn the_limit_of_the_input() {
-    let mut random = Random::new();
+    let mut random = Random::of_test();
     let settings = settings(16, 4);
     let good = |entries: usize| IndexFile::new(settings, &counted_list(settings, entries)).bytes;
     let footer = good(0);
@@ -235,19 +233,6 @@ fn the_longest_text() {
     });
     let longest = lengths.max().expect("there are settings");
     println!("the longest text has {longest} bytes");
-}
-
-/// Good files and files with random faults of every kind.
-#[test]
-fn thirty_thousand_inputs() {
-    let mut tally = Tally::new("inputs");
-    for_spoilt_files(30_000, |random, file| {
-        let listed = second_listing(file);
-        let room = room(random, listed.as_ref().map_or(50, String::len));
-        let _ = compare(file, &listed, room);
-        tally.add(&listed);
-    });
-    tally.print(1..=9);
 }
 
 /// The second program's listing of an input that is not refused.

@@ -2,19 +2,16 @@
 //! its own halving and its own plain reading.
 
 mod compare;
-mod forge;
-mod random;
 
-use std::fmt;
-
-use compare::{Context, in_library_entry, in_library_terms, reason, refusal_at};
+use compare::{in_library_entry, in_library_terms, reason, refusal_at};
 use dwarnizza::index::{Entry, Lookup, Page, Slot};
 use dwarnizza::{Reason, Refusal};
-use forge::{
+use forge::faults::flip;
+use forge::faults::index::{
     COUNT, FOOTER_HASH, Fault, HASH_LENGTH, IndexFile, VERSION, all_settings, beside, counted_list,
-    flip, keys, neighbour_lists, random_list, settings, spoil,
+    keys, neighbour_lists, random_list, settings,
 };
-use random::Random;
+use forge::random::Random;
 use second::index::{FOOTER, Index, MOST_ENTRIES, Settings};
 
 /// What a lookup gives.
@@ -119,7 +116,7 @@ fn m4_one_entry() {
 /// says. At the start and the end of each page the plain reading is asked too.
 #[test]
 fn every_layout() {
-    let mut random = Random::new();
+    let mut random = Random::of_test();
     let (mut found, mut missing) = (0, 0);
     for settings in all_settings() {
         let full = settings.entries_per_page();
@@ -172,7 +169,7 @@ fn expect_to_say(entry: Entry, bytes: &[u8]) {
 /// All keys of one and of two bytes in indexes of one page and of several.
 #[test]
 fn every_key() {
-    let mut random = Random::new();
+    let mut random = Random::of_test();
     let one = settings(1, 5);
     for entries in [0, 1, 2, 3, 100, 255, 256] {
         let file = IndexFile::random(&mut random, one, entries).bytes;
@@ -376,7 +373,7 @@ fn pages_out_of_order() {
 /// Page hashes, padding and the contents hash are nothing to a lookup.
 #[test]
 fn what_is_not_looked_at() {
-    let mut random = Random::new();
+    let mut random = Random::of_test();
     for settings in [settings(16, 4), settings(2, 5), settings(9, 6)] {
         let full = settings.entries_per_page();
         let list = random_list(&mut random, settings, 2 * full + 20);
@@ -440,7 +437,7 @@ fn the_order_of_refusals() {
         }
         assert_eq!(compare_bound(file), Err(refused(reason)));
     }
-    let mut random = Random::new();
+    let mut random = Random::of_test();
     let mut file = IndexFile::random(&mut random, settings(16, 4), 171);
     assert_eq!(
         compare(&file.bytes, &[0; 15]),
@@ -466,7 +463,7 @@ fn the_order_of_refusals() {
 /// wrong.
 #[test]
 fn footers() {
-    let mut random = Random::new();
+    let mut random = Random::of_test();
     let good = IndexFile::random(&mut random, settings(16, 4), 1);
     for field in VERSION..COUNT.end {
         for value in 0..=u8::MAX {
@@ -505,143 +502,4 @@ fn the_limit_of_entries() {
     let more = file(MOST_ENTRIES + 1);
     assert_eq!(compare(&more, &[0]), Err(refused(Reason::EntryCount)));
     assert_eq!(compare_bound(&more), Err(refused(Reason::EntryCount)));
-}
-
-/// How often each answer was given.
-#[derive(Default)]
-struct Tally {
-    lookups: u64,
-    found: u64,
-    absent: u64,
-    refused: [u64; 11],
-    /// Those in files that pass the full check.
-    checked: u64,
-    /// Those found, and absent, in files that pass 1 to 5 and fail the full check.
-    unchecked_found: u64,
-    unchecked_absent: u64,
-    /// Those of them in which the plain reading gives another answer.
-    unlike_plain: u64,
-}
-
-impl Tally {
-    /// Holds the two programs against each other on one file and one key.
-    fn compare(&mut self, file: &[u8], passes: bool, key: &[u8]) {
-        self.lookups += 1;
-        let answer = match compare(file, key) {
-            Ok(answer) => answer,
-            Err(refusal) => {
-                self.refused[refusal.number() as usize] += 1;
-                return;
-            }
-        };
-        let found = answer.found().is_some();
-        match found {
-            true => self.found += 1,
-            false => self.absent += 1,
-        }
-        assert!(answer.compared() <= bound(file).expect("the lookup was answered"));
-        let plain = plain_reading(file, key, answer.compared());
-        if passes {
-            self.checked += 1;
-            assert_eq!(answer, plain);
-        } else {
-            match found {
-                true => self.unchecked_found += 1,
-                false => self.unchecked_absent += 1,
-            }
-            self.unlike_plain += u64::from(answer != plain);
-        }
-    }
-}
-
-impl fmt::Display for Tally {
-    fn fmt(&self, f: &mut fmt::Formatter<'_>) -> fmt::Result {
-        write!(
-            f,
-            "{} lookups: {} found, {} absent",
-            self.lookups, self.found, self.absent
-        )?;
-        for (number, count) in self.refused.iter().enumerate().filter(|(_, n)| **n > 0) {
-            write!(f, ", {count} refused {number}")?;
-        }
-        write!(
-            f,
-            "; {} in files that pass the full check, {} found and {} absent in others, {} of them \
-             unlike the plain reading",
-            self.checked, self.unchecked_found, self.unchecked_absent, self.unlike_plain
-        )
-    }
-}
-
-/// Keys of all kinds in good files and in files with random faults of every kind.
-#[test]
-fn two_hundred_thousand_lookups() {
-    const LOOKUPS: u64 = 200_000;
-    const FROM_EACH: usize = 12;
-    const KEYS: usize = 10;
-
-    let mut random = Random::new();
-    let mut tally = Tally::default();
-    let mut files = 0;
-    while tally.lookups < LOOKUPS {
-        let mut good = IndexFile::random_layout(&mut random);
-        for _ in 0..FROM_EACH {
-            let (kind, file) = spoil(&mut random, &good);
-            let _context = Context {
-                number: files,
-                kind,
-            };
-            files += 1;
-            let _ = compare_bound(&file);
-            let passes = second::index::check(&file).is_ok();
-            for _ in 0..KEYS {
-                let key = random_key(&mut random, &mut good, &file);
-                tally.compare(&file, passes, &key);
-            }
-        }
-    }
-    println!("{tally}");
-    for (count, what) in [
-        (tally.found, "was found"),
-        (tally.absent, "was absent"),
-        (tally.unchecked_found, "was found in a bad file"),
-        (tally.unchecked_absent, "was absent in a bad file"),
-        (tally.unlike_plain, "was unlike the plain reading"),
-    ] {
-        assert!(count > 0, "no key {what}");
-    }
-    for number in (1..=5).chain([10]) {
-        assert!(tally.refused[number] > 0, "none was refused with {number}");
-    }
-}
-
-/// A key of the good file or beside one, bytes of the spoilt file, or any; now and then of a wrong
-/// length.
-fn random_key(random: &mut Random, good: &mut IndexFile, spoilt: &[u8]) -> Vec<u8> {
-    let length = good.settings.key_len();
-    let mut key = match random.up_to(9) {
-        0 => vec![0; length],
-        1 => vec![0xff; length],
-        2 => random.bytes(length),
-        3 if spoilt.len() > length => {
-            let start = random.up_to(spoilt.len() - length);
-            spoilt[start..][..length].to_vec()
-        }
-        _ if good.entries == 0 => random.bytes(length),
-        choice => {
-            let page = random.up_to(good.pages() - 1);
-            let entry = match choice {
-                4 => page * good.settings.entries_per_page(),
-                5 => good.last_entry(page),
-                _ => random.up_to(good.entries - 1),
-            };
-            let step = [0, 0, 1, -1][random.up_to(3)];
-            beside(good.key(entry), step)
-        }
-    };
-    if random.up_to(15) == 0 {
-        let wrong = [0, length - 1, length + 1, 16][random.up_to(3)];
-        key.resize(wrong, 0);
-    }
-    key
 }

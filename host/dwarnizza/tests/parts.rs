@@ -1,14 +1,12 @@
 //! Footers, loose indexes and the parts of a page: the library against the second program.
 
 mod compare;
-mod forge;
-mod random;
 
-use compare::{Tally, in_library_settings, in_library_terms};
+use compare::{in_library_settings, in_library_terms};
 use dwarnizza::index::{Page, Summary};
 use dwarnizza::{Index, Refusal};
-use forge::{IndexFile, all_settings, for_spoilt_files, keys, random_list};
-use random::Random;
+use forge::faults::index::{IndexFile, all_settings, keys, random_list};
+use forge::random::Random;
 use second::index::FOOTER;
 
 /// Where the offset width stands in a footer.
@@ -66,7 +64,7 @@ fn compare_page(file: &[u8], page: u32) -> Result<bool, Refusal> {
 /// Every page of files of every layout, and footers by ever fewer of the last bytes.
 #[test]
 fn every_layout() {
-    let mut random = Random::new();
+    let mut random = Random::of_test();
     for settings in all_settings() {
         let full = settings.entries_per_page();
         for entries in [0, 1, full, full + 1, 3 * full + 7] {
@@ -99,7 +97,7 @@ fn every_layout() {
 /// The footer of a loose index, and each byte of it changed, with the hash right and wrong.
 #[test]
 fn loose_indexes() {
-    let mut random = Random::new();
+    let mut random = Random::of_test();
     for settings in all_settings() {
         let mut loose = IndexFile::random(&mut random, settings, 5.min(keys(settings)));
         loose.footer()[OFFSET_WIDTH] = 0;
@@ -115,22 +113,4 @@ fn loose_indexes() {
             compare_loose(&other.bytes);
         }
     }
-}
-
-/// Good files and files with random faults of every kind.
-#[test]
-fn spoilt_files() {
-    let mut footers = Tally::new("footers");
-    let mut pages = Tally::new("pages");
-    for_spoilt_files(60_000, |random, file| {
-        footers.add(&compare_footer(file));
-        compare_loose(file);
-        let page = match random.up_to(3) {
-            0 => random.word() as u32,
-            _ => random.up_to(3) as u32,
-        };
-        pages.add(&compare_page(file, page));
-    });
-    footers.print([1, 2, 3]);
-    pages.print([1, 2, 3, 5]);
 }

@@ -1,16 +1,13 @@
 //! Root files: the library against the second program.
 
 mod compare;
-mod forge;
-mod random;
 mod raw;
 
 use compare::{Tally, in_library_terms, refusal_at};
 use dwarnizza::root::Record;
 use dwarnizza::{Reason, Refusal, Root};
-use forge::for_files_of;
-use forge::root::{Fault, KINDS, NO_NAME_HASHES, RootFile, random_flags, random_masks};
-use random::Random;
+use forge::faults::root::{Fault, NO_NAME_HASHES, RootFile, random_flags};
+use forge::random::Random;
 use second::root::{BlockParts, Header, MAGICS, write};
 
 /// All locales.
@@ -184,7 +181,7 @@ fn by_parts(file: &RootFile, id: u32, locale: u32, unwanted: u64) -> Option<Reco
 /// Each record of good files, by masks of every kind: what is found is what the parts say.
 #[test]
 fn every_record() {
-    let mut random = Random::new();
+    let mut random = Random::of_test();
     let (mut found, mut absent) = (0, 0);
     for _ in 0..3000 {
         let file = RootFile::random(&mut random);
@@ -249,7 +246,7 @@ fn masks() {
 /// Of faults in two blocks, or in one, the one that is judged first is told.
 #[test]
 fn block_by_block() {
-    let mut random = Random::new();
+    let mut random = Random::of_test();
     let mut tally = Tally::new("files with faults");
     tally.add(&compare_check(&RootFile::random(&mut random).bytes));
     while tally.count < 20_000 {
@@ -268,7 +265,7 @@ fn block_by_block() {
                     file.put_fault(&mut random, block, fault);
                 }
                 let (block, fault) = one.min(other);
-                let refused = good.refusal(block, fault);
+                let refused = in_library_terms(good.refusal(block, fault));
                 let answer = compare_check(&file.bytes);
                 assert_eq!(answer, Err(refused), "{one:?} and {other:?}");
                 // Blocks that do not count are checked too.
@@ -309,24 +306,4 @@ fn every_byte() {
         }
     }
     tally.print(40..=44);
-}
-
-/// Good files and files with random faults of every kind, with ids and masks of every kind.
-#[test]
-fn hundred_thousand_files() {
-    let mut checks = Tally::new("files");
-    let mut found = 0;
-    for_files_of(&KINDS, 100_000, RootFile::random, |random, good, file| {
-        checks.add(&compare_check(file));
-        for _ in 0..4 {
-            let id = good.any_id(random);
-            let (locale, unwanted) = random_masks(random);
-            if let Ok(Some(_)) = compare_find(file, id, locale, unwanted) {
-                found += 1;
-            }
-        }
-    });
-    checks.print(40..=44);
-    println!("{found} of the ids found");
-    assert!(found > 10_000);
 }

@@ -1,13 +1,12 @@
 //! Worklists: the library against the second program, and the laws of rows and fields.
 
 mod compare;
-mod random;
 mod raw;
 
-use compare::{compare_outputs, in_library_terms, refusal_at, room};
+use compare::{compare_outputs, in_library_terms, refusal_at};
 use dwarnizza::worklist::{Malformed, Row};
 use dwarnizza::{Reason, Worklist};
-use random::Random;
+use forge::random::Random;
 use second::worklist::Field;
 
 const COMMA: u8 = b',';
@@ -236,35 +235,10 @@ fn random_text(random: &mut Random, length: usize, separator: u8) -> Vec<u8> {
     text
 }
 
-#[test]
-fn a_hundred_thousand_texts() {
-    let mut random = Random::new();
-    let (mut rows, mut malformed) = (0, 0);
-    for _ in 0..100_000 {
-        let any = [0, 1, b';', b'\t', b'|', 255, random.word() as u8];
-        let separator = match any[random.up_to(any.len() - 1)] {
-            b'"' | b'\r' | b'\n' => COMMA,
-            separator => separator,
-        };
-        let text = random_text(&mut random, 60, separator);
-        for row in compare_rows(&text, separator) {
-            rows += 1;
-            malformed += usize::from(row.fields().is_err());
-        }
-        let at = random.up_to(text.len() + 2);
-        compare_row(&text, at, separator);
-        compare_unquoted(&text, room(&mut random, text.len()));
-        let quoted = [b"\"", &text[..], b"\""].concat();
-        compare_unquoted(&quoted, room(&mut random, text.len()));
-    }
-    println!("{rows} rows, {malformed} of them malformed");
-    assert!(malformed > 10_000 && rows > 2 * malformed);
-}
-
 /// What is quoted is read back: any bytes, with each quote doubled, in quotes.
 #[test]
 fn quoted_bytes_are_read_back() {
-    let mut random = Random::new();
+    let mut random = Random::of_test();
     for _ in 0..20_000 {
         let contents: Vec<Vec<u8>> = (0..=random.up_to(4))
             .map(|_| random_text(&mut random, 12, COMMA))

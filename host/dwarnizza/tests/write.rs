@@ -2,19 +2,15 @@
 //! against the full check and the list.
 
 mod compare;
-mod forge;
-mod random;
 
-use compare::{
-    Context, Tally, compare_outputs, in_library_settings, in_library_terms, refusal_at, room,
-};
+use compare::{compare_outputs, in_library_settings, in_library_terms, refusal_at};
 use dwarnizza::index::Summary;
 use dwarnizza::{Index, Reason, Refusal};
-use forge::{
-    IndexFile, VERSION, all_settings, count_down, counted_list, flip, keys, neighbour_lists,
-    random_layout, random_list, settings,
+use forge::faults::index::{
+    IndexFile, VERSION, all_settings, count_down, counted_list, keys, neighbour_lists, random_list,
+    settings,
 };
-use random::Random;
+use forge::random::Random;
 use second::index::{FOOTER, MOST_ENTRIES, Settings};
 
 /// The file by the library in an output of this size, compared with the second program's.
@@ -91,7 +87,7 @@ fn round_trip_of_file(random: &mut Random, good: &IndexFile) {
 
 #[test]
 fn round_trips_of_every_layout() {
-    let mut random = Random::new();
+    let mut random = Random::of_test();
     let mut files = 0;
     for settings in all_settings() {
         let full = settings.entries_per_page();
@@ -180,7 +176,7 @@ fn keys_are_compared_whole_and_unsigned() {
 /// after it.
 #[test]
 fn the_first_entry_out_of_order() {
-    let mut random = Random::new();
+    let mut random = Random::of_test();
     for settings in [settings(16, 4), settings(2, 5), settings(9, 6)] {
         let entries = 2 * settings.entries_per_page() + 20;
         let good = random_list(&mut random, settings, entries);
@@ -264,67 +260,4 @@ fn the_limit_of_entries() {
     let (summary, listed) = read_back(&file.expect("so many may be written"));
     assert_eq!(summary.entries, MOST_ENTRIES);
     assert!(listed == list, "another list comes back");
-}
-
-/// What is put into a list or its settings, mostly one fault or none.
-fn spoil(random: &mut Random, settings: &mut Settings, list: &mut Vec<u8>) -> &'static str {
-    let good = *settings;
-    let mut kind = "good";
-    if random.up_to(5) == 0 {
-        kind = "settings";
-        let most = [20, 255][random.up_to(1)];
-        let value = random.up_to(most) as u32;
-        match random.up_to(2) {
-            0 => settings.version = value,
-            1 => settings.offset_width = value,
-            _ => settings.key_length = value,
-        }
-    }
-    if random.up_to(3) == 0 && list.len() > good.entry_len() {
-        kind = "an entry out of order";
-        let entry = 1 + random.up_to(list.len() / good.entry_len() - 2);
-        put_out_of_order(random, good, list, entry);
-    }
-    if random.up_to(7) == 0 && !list.is_empty() {
-        kind = "bytes flipped";
-        flip(random, list);
-    }
-    if random.up_to(7) == 0 {
-        kind = "another length";
-        list.resize(list.len() + random.up_to(20), 0xff);
-        list.truncate(list.len().saturating_sub(random.up_to(20)));
-    }
-    kind
-}
-
-/// Good lists and lists with random faults of every kind. What is written gives list and settings
-/// back.
-#[test]
-fn a_hundred_thousand_lists() {
-    const LISTS: u64 = 100_000;
-    const FROM_EACH: usize = 8;
-
-    let mut random = Random::new();
-    let mut tally = Tally::new("lists");
-    while tally.count < LISTS {
-        let (good, entries) = random_layout(&mut random);
-        let good_list = random_list(&mut random, good, entries);
-        for _ in 0..FROM_EACH {
-            let (mut settings, mut list) = (good, good_list.clone());
-            let kind = spoil(&mut random, &mut settings, &mut list);
-            let _context = Context {
-                number: tally.count,
-                kind,
-            };
-            let room = room(&mut random, good.file_len(entries));
-            let answer = compare(settings, &list, room);
-            tally.add(&answer);
-            if let Ok(file) = answer {
-                let (summary, listed) = read_back(&file);
-                assert_eq!(summary.settings, in_library_settings(settings));
-                assert!(listed == list, "another list comes back");
-            }
-        }
-    }
-    tally.print([8, 11, 12, 13]);
 }

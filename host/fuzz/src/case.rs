@@ -11,7 +11,7 @@ mod root;
 mod worklist;
 
 use crate::compare::{Comparison, Difference};
-use crate::random::Random;
+use forge::random::Random;
 
 /// What a case ends with: the first difference, if there is one.
 type Compared = Result<(), Box<Difference>>;

@@ -6,7 +6,7 @@ use std::ptr;
 use crate::counts::Counts;
 use crate::export::{Export, Given, REFUSED, Said};
 use crate::lent::{ALIGNMENT, Lent, Memory};
-use crate::random::Random;
+use forge::random::Random;
 
 /// The output that a call is lent.
 #[derive(Clone, Copy, Debug)]

@@ -1,6 +1,6 @@
 //! Memory that is lent to a call, between guards that show a byte written outside of it.
 
-use crate::random::Random;
+use forge::random::Random;
 
 /// The answer of a call.
 pub type Words = [u64; 8];

@@ -3,12 +3,9 @@
 #![allow(dead_code)] // Each test uses a part of it.
 
 use std::fmt::{self, Debug};
-use std::thread;
 
 use dwarnizza::index::{Entry, Page, Settings, Slot};
 use dwarnizza::{Reason, Refusal};
-
-use crate::random::Random;
 
 /// A refusal outside a chain.
 pub fn refusal_at(reason: Reason, place: usize) -> Refusal {
@@ -81,16 +78,6 @@ pub fn compare_outputs<E: Debug + PartialEq>(
     expected.map(|_| by_library)
 }
 
-/// An output's size, for an answer of this length: as long, too short, longer, or any.
-pub fn room(random: &mut Random, length: usize) -> usize {
-    match random.up_to(3) {
-        0 => length,
-        1 => length.saturating_sub(1),
-        2 => length + 1 + random.up_to(500),
-        _ => random.up_to(length),
-    }
-}
-
 /// How often each answer was given.
 pub struct Tally {
     /// What is counted.
@@ -141,19 +128,5 @@ impl fmt::Display for Tally {
             write!(f, ", {count} refused {number}")?;
         }
         Ok(())
-    }
-}
-
-/// Says, where a comparison fails, of which file.
-pub struct Context {
-    pub number: u64,
-    pub kind: &'static str,
-}
-
-impl Drop for Context {
-    fn drop(&mut self) {
-        if thread::panicking() {
-            eprintln!("file {} ({})", self.number, self.kind);
-        }
     }
 }

@@ -4,12 +4,12 @@ use second::index::Settings;
 
 use super::Compared;
 use super::root::wanted;
-use crate::build::{Encoding, Index, KeySizes, List, Root};
 use crate::compare::{Comparison, Output};
-use crate::damage::damage;
 use crate::export::{Given, RESOLVE};
-use crate::random::Random;
-use crate::repair;
+use forge::build::{Encoding, Index, KeySizes, List, Root};
+use forge::damage::damage;
+use forge::random::Random;
+use forge::repair;
 
 pub fn compare(random: &mut Random, comparison: &mut Comparison) -> Compared {
     let sizes = KeySizes {

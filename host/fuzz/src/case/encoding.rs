@@ -1,14 +1,14 @@
 //! An encoding file.
 
 use super::Compared;
-use crate::build::{self, Encoding, KeySizes};
 use crate::compare::{Comparison, Output};
-use crate::damage::damage;
 use crate::export::{
     ENCODING_CHECK, ENCODING_FIND_CONTENT, ENCODING_FIND_ENCODING, ENCODING_SPEC, Export, Given,
 };
-use crate::random::Random;
-use crate::repair;
+use forge::build::{self, Encoding, KeySizes};
+use forge::damage::damage;
+use forge::random::Random;
+use forge::repair;
 
 pub fn compare(random: &mut Random, comparison: &mut Comparison) -> Compared {
     let sizes = KeySizes::any(random);

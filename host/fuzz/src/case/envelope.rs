@@ -1,12 +1,12 @@
 //! An envelope.
 
 use super::Compared;
-use crate::build::Envelope;
 use crate::compare::{Comparison, Output};
-use crate::damage::{damage, room};
 use crate::export::{ENVELOPE_KEY, ENVELOPE_LENGTH, ENVELOPE_OPEN, Given};
-use crate::random::Random;
-use crate::repair;
+use forge::build::Envelope;
+use forge::damage::{damage, room};
+use forge::random::Random;
+use forge::repair;
 
 pub fn compare(random: &mut Random, comparison: &mut Comparison) -> Compared {
     let envelope = Envelope::new(random);

@@ -3,15 +3,15 @@
 use second::index::FOOTER;
 
 use super::Compared;
-use crate::build::{self, Index, List};
 use crate::compare::{Comparison, Output};
-use crate::damage::{damage, room};
 use crate::export::{
     ANSWERED, Given, INDEX_BOUND, INDEX_CHECK, INDEX_ENTRY, INDEX_FOOTER, INDEX_LIST,
     INDEX_LISTING, INDEX_LOOKUP, INDEX_LOOSE, INDEX_PAGE, INDEX_SETTINGS,
 };
-use crate::random::Random;
-use crate::repair;
+use forge::build::{self, Index, List};
+use forge::damage::{damage, room};
+use forge::random::Random;
+use forge::repair;
 
 /// Where the offset width stands in a footer.
 const OFFSET_WIDTH: usize = 12;

@@ -2,9 +2,9 @@
 
 use super::Compared;
 use crate::compare::{Comparison, Output};
-use crate::damage::damage_whole;
 use crate::export::{Given, KEY_TEXT};
-use crate::random::Random;
+use forge::damage::damage_whole;
+use forge::random::Random;
 
 /// The hex digits, in both cases.
 const DIGITS: &[u8] = b"0123456789abcdefABCDEF";

@@ -3,11 +3,11 @@
 use second::index::Settings;
 
 use super::Compared;
-use crate::build::List;
 use crate::compare::{Comparison, Output};
-use crate::damage::{damage, room};
 use crate::export::{Given, INDEX_WRITE, INDEX_WRITTEN_LENGTH, LIST_PUT};
-use crate::random::Random;
+use forge::build::List;
+use forge::damage::{damage, room};
+use forge::random::Random;
 
 /// A list with its settings, or with others.
 pub fn compare_written(random: &mut Random, comparison: &mut Comparison) -> Compared {

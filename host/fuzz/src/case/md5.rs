@@ -3,7 +3,7 @@
 use super::Compared;
 use crate::compare::{Comparison, Output};
 use crate::export::{Given, MD5, MD5_FINISH, MD5_START, MD5_UPDATE, State};
-use crate::random::Random;
+use forge::random::Random;
 
 /// The most bytes that a state takes.
 const LIMIT: u64 = 1 << 48;

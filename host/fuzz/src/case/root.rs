@@ -1,11 +1,11 @@
 //! A root file.
 
 use super::Compared;
-use crate::build::{Root, flags};
 use crate::compare::{Comparison, Output};
-use crate::damage::{damage, room};
 use crate::export::{Given, ROOT_CHECK, ROOT_FIND, ROOT_FIND_MANY};
-use crate::random::Random;
+use forge::build::{Root, flags};
+use forge::damage::{damage, room};
+use forge::random::Random;
 
 pub fn compare(random: &mut Random, comparison: &mut Comparison) -> Compared {
     let root = Root::new(random, &[]);

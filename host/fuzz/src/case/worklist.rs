@@ -2,11 +2,11 @@
 
 use super::Compared;
 use crate::compare::{Comparison, Difference, Output};
-use crate::damage::{damage_whole, room};
 use crate::export::{
     ANSWERED, FILE_NUMBER, Given, WORKLIST_FIELD, WORKLIST_ROW, WORKLIST_UNQUOTED,
 };
-use crate::random::Random;
+use forge::damage::{damage_whole, room};
+use forge::random::Random;
 
 /// The separators of spreadsheets, bytes at the bounds, and a digit.
 const SEPARATORS: [u64; 8] = [44, 44, 59, 9, 124, 0, 255, 49];

@@ -1,70 +1,24 @@
 use dwarnizza_sys::dwarnizza_resolve;
-use second::encoding::{ContentEntry, Parts, TableParts};
-use second::root::{BlockParts, Record};
+use forge::counted::of_list;
+use forge::faults::chain::Files;
+use forge::faults::index::settings;
+use forge::small;
 
 use crate::call::{Answer, answer};
 
-/// Root, encoding file and index.
-type Files = [Vec<u8>; 3];
-
 /// Files in which the id 5 is in the index, the id 6 is missing in it, the id 7 in the encoding
-/// file and all others in the root file. The locale is 2, the content flag 4.
+/// file and all others in the root file.
 fn files() -> Files {
-    let records = [0x51, 0x61, 0x71].map(|key| Record {
-        delta: if key == 0x51 { 5 } else { 0 },
-        key: [key; 16],
-        name_hash: [0; 8],
-    });
-    let block = BlockParts {
-        locale: 2,
-        content: 4,
-        unknown: [0; 5],
-        records: records.to_vec(),
-    };
-    [
-        second::root::write(None, &[block]),
-        encoding(16),
-        index(&[
-            [0xa4, 0, 0, 0, 1, 0, 0, 0, 0, 0, 1],
-            [0xa5, 1, 2, 3, 4, 5, 6, 7, 8, 9, 10],
-        ]),
-    ]
-}
-
-/// The content keys 51 and 61, of so many bytes, have the encoding keys a5 and a6, and a4 besides.
-fn encoding(key_size: u8) -> Vec<u8> {
-    let entry = |key, encoding_key| {
-        ContentEntry {
-            count: 2,
-            size: 7,
-            key: &vec![key; key_size.into()],
-            encoding_keys: &[encoding_key, 0xa4],
-        }
-        .bytes()
-    };
-    let table = |key_size, page| TableParts {
-        key_size,
-        page_kb: 1,
-        pages: vec![page],
-    };
-    second::encoding::write(&Parts {
-        specs: b"n\0".to_vec(),
-        content: table(key_size, [entry(0x51, 0xa5), entry(0x61, 0xa6)].concat()),
-        encoding: table(1, vec![0xa5, 0, 0, 0, 0, 0, 0, 0, 0, 7]),
-        own_spec: Vec::new(),
-    })
+    let index = index(&[
+        [0xa4, 0, 0, 0, 1, 0, 0, 0, 0, 0, 1],
+        [0xa5, 1, 2, 3, 4, 5, 6, 7, 8, 9, 10],
+    ]);
+    [small::root(), small::encoding(16), index]
 }
 
 /// The index of entries of N bytes, with offset width 6.
 fn index<const N: usize>(list: &[[u8; N]]) -> Vec<u8> {
-    let settings = second::index::Settings {
-        version: 1,
-        offset_width: 6,
-        key_length: N as u32 - 10,
-    };
-    let mut index = vec![0; settings.file_len(list.len())];
-    second::index::write(settings, list.as_flattened(), &mut index).unwrap();
-    index
+    of_list(settings(N as u32 - 10, 6), list.as_flattened())
 }
 
 fn resolve(files: &Files, id: u32, locale: u32, unwanted: u64) -> Answer {
@@ -119,7 +73,7 @@ fn each_refusal_writes_the_whole_answer() {
     files[1][page + 24..page + 1024].fill(255);
     assert_eq!(resolve(&files, 5, 2, 0), refused(10, 0, 3));
     assert_eq!(resolve(&files, 6, 2, 0), refused(35, 0, 2));
-    files[1] = encoding(15);
+    files[1] = small::encoding(15);
     assert_eq!(resolve(&files, 5, 2, 0), refused(39, 0, 2));
 
     // A second block, whose id is below 0.

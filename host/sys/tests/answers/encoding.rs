@@ -2,33 +2,10 @@ use dwarnizza_sys::{
     dwarnizza_encoding_check, dwarnizza_encoding_find_content, dwarnizza_encoding_find_encoding,
     dwarnizza_encoding_spec,
 };
-use second::encoding::{Parts, TableParts, write};
+use forge::small::encoding_parts;
+use second::encoding::write;
 
 use crate::call::{ABSENT, Answer, numbered, one_input, refused, two_inputs};
-
-/// The parts of a file of the content keys 00 05 and 00 08, on a page each, and of the encoding
-/// keys a1 and a2.
-fn parts() -> Parts {
-    Parts {
-        specs: b"n\0zz\0".to_vec(),
-        content: TableParts {
-            key_size: 2,
-            page_kb: 1,
-            pages: vec![
-                vec![2, 1, 2, 3, 4, 5, 0, 5, 0xa1, 0xa2],
-                vec![1, 0, 0, 0, 0, 0, 0, 8, 0xa1],
-            ],
-        },
-        encoding: TableParts {
-            key_size: 1,
-            page_kb: 1,
-            pages: vec![vec![
-                0xa1, 0, 0, 0, 1, 6, 7, 8, 9, 10, 0xa2, 0, 0, 0, 0, 0, 0, 0, 0, 0,
-            ]],
-        },
-        own_spec: Vec::new(),
-    }
-}
 
 /// Where the specs and the content pages stand in the file of these parts.
 const SPECS: u64 = 22;
@@ -56,7 +33,7 @@ fn found([a, b, c, d]: [u64; 4]) -> Answer {
 
 #[test]
 fn each_call_writes_the_whole_answer() {
-    let file = write(&parts());
+    let file = write(&encoding_parts());
     assert_eq!(check(&file), (0, [0; 8]));
 
     let entry = found([0x01_0203_0405, 2, CONTENT_PAGES[0] + 8, 2]);
@@ -77,7 +54,7 @@ fn each_call_writes_the_whole_answer() {
 
 #[test]
 fn each_refusal_writes_the_whole_answer() {
-    let mut file = write(&parts());
+    let mut file = write(&encoding_parts());
     for key in [&[][..], &[5, 5, 5]] {
         assert_eq!(find_content(&file, key), refused(39, 0));
         assert_eq!(find_encoding(&file, key), refused(39, 0));
@@ -91,7 +68,7 @@ fn each_refusal_writes_the_whole_answer() {
     assert_eq!(find_encoding(&file, &[]), refused(33, 0));
     assert_eq!(spec(&file, 9), refused(33, 0));
 
-    let mut faulty = parts();
+    let mut faulty = encoding_parts();
     faulty.encoding.pages[0][14] = 2;
     let file = write(&faulty);
     assert_eq!(check(&file), refused(38, 0));

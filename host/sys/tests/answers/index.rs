@@ -1,4 +1,6 @@
 use dwarnizza_sys as ffi;
+use forge::counted::of_list;
+use forge::faults::index::{IndexFile, settings};
 use second::index::Settings;
 
 use crate::call::{
@@ -9,35 +11,15 @@ const LIST: [u8; 18] = [5, 0, 0, 0, 7, 0, 0, 0, 9, 6, 0, 0, 0, 8, 0, 0, 0, 7];
 
 const SETTINGS: Settings = settings(1, 4);
 
-const fn settings(key_length: u32, offset_width: u32) -> Settings {
-    Settings {
-        version: 1,
-        offset_width,
-        key_length,
-    }
-}
-
-fn index_of(settings: Settings, list: &[u8]) -> Vec<u8> {
-    let mut index = vec![0; settings.file_len(list.len() / settings.entry_len())];
-    let length = second::index::write(settings, list, &mut index);
-    assert_eq!(length, Ok(index.len()));
-    index
-}
-
 /// The index of `LIST` with `SETTINGS`.
 fn index() -> Vec<u8> {
-    index_of(SETTINGS, &LIST)
+    of_list(SETTINGS, &LIST)
 }
 
 /// The same with its keys in the other order, and all hashes right.
 fn index_out_of_order() -> Vec<u8> {
-    let mut index = index();
-    index.swap(0, 9);
-    index[4096] = 5;
-    let (page, rest) = index.split_at_mut(4096);
-    let hash = second::md5::digest(page).unwrap();
-    rest[1..9].copy_from_slice(&hash[..8]);
-    index
+    let (one, other) = LIST.split_at(SETTINGS.entry_len());
+    IndexFile::new(SETTINGS, &[other, one].concat()).bytes
 }
 
 /// The index of the keys 05 and 08 with this offset width, whose locations begin with their key.
@@ -47,7 +29,7 @@ fn index_of_two(offset_width: u32) -> Vec<u8> {
         list.extend([key, 0, 0, 0, 7, key]);
         list.resize(list.len() + offset_width as usize - 1, 1);
     }
-    index_of(settings(1, offset_width), &list)
+    of_list(settings(1, offset_width), &list)
 }
 
 #[test]
@@ -145,7 +127,7 @@ fn lookup_and_bound() {
         [5, 0, 0, 0, 7, 0, 0, 0, 0, 0, 9],
         [8, 1, 2, 3, 4, 0xa5, 0xa6, 0xa7, 0xa8, 0xa9, 0xaa],
     ];
-    let mut index = index_of(settings(1, 6), list.as_flattened());
+    let mut index = of_list(settings(1, 6), list.as_flattened());
     let find = |index: &[u8], key: &[u8]| two_inputs(lookup, index, key);
     // One last key, slot 1, slot 0, and the slot that they lead to once more.
     let found = (0, [0, 1, 0x0102_0304, 0xa5a6_a7a8_a9aa, 4, 0, 0, 0]);
@@ -175,7 +157,7 @@ fn lookup_with_no_slot_on_the_page() {
         list.extend(key.to_be_bytes());
         list.extend([7; 10]);
     }
-    let mut index = index_of(settings, &list);
+    let mut index = of_list(settings, &list);
     index[2 * 4096 + 2] = 0xff;
     // Both last keys, and the page's one entry.
     let lookup = two_inputs(ffi::dwarnizza_index_lookup, &index, &[0xf0, 0]);

@@ -1,11 +1,8 @@
 //! Repair of envelopes, by what their table says now.
 
 use super::digest;
+use crate::build::{BEFORE_ROWS, ROW};
 use crate::random::Random;
-
-/// How many bytes stand before the rows, and how many a row has.
-const BEFORE_ROWS: usize = 12;
-const ROW: usize = 24;
 
 /// Repairs most of: the header size, the encoded size of the last chunk, and the chunk hashes.
 pub fn envelope(file: &mut [u8], random: &mut Random) {

@@ -8,9 +8,11 @@ use crate::random::Random;
 /// Where the fields before the rows stand, and how many bytes they have.
 const FRONT: [(usize, usize); 4] = [(0, 4), (4, 4), (8, 1), (9, 3)];
 
-/// How many bytes stand before the rows, and how many a row has.
-const BEFORE_ROWS: usize = 12;
-const ROW: usize = 24;
+/// How many bytes stand before the rows.
+pub const BEFORE_ROWS: usize = 12;
+
+/// How many bytes a row has.
+pub const ROW: usize = 24;
 
 /// Where the fields of a row stand in it, and how many bytes they have.
 const ROW_FIELDS: [(usize, usize); 3] = [(0, 4), (4, 4), (8, 16)];

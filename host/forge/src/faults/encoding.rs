@@ -1,10 +1,8 @@
 //! Encoding files.
 
 mod fault;
-mod spoil;
 
 pub use fault::{Fault, PageFault};
-pub use spoil::KINDS;
 
 use std::ops::Range;
 
@@ -13,7 +11,7 @@ use second::encoding::{
 };
 use second::md5;
 
-use super::rising_keys;
+use super::index::rising_keys;
 use crate::random::Random;
 
 /// How many bytes of a content entry stand before its key.
@@ -22,29 +20,36 @@ const BEFORE_KEY: usize = 6;
 /// The content pages or the encoding pages.
 #[derive(Clone, Copy, Debug, PartialEq, Eq, PartialOrd, Ord)]
 pub enum Kind {
+    /// Those of content entries.
     Content,
+    /// Those of encoding entries.
     Encoding,
 }
 
+/// Both, in the order of the file.
 pub const BOTH: [Kind; 2] = [Kind::Content, Kind::Encoding];
 
 /// Where an entry stands.
 #[derive(Clone, Copy, Debug)]
 pub struct Entry {
+    /// Its page.
     pub page: usize,
-    /// Where it starts in the page, and how many bytes it has.
+    /// Where it starts in the page.
     pub at: usize,
+    /// How many bytes it has.
     pub length: usize,
 }
 
 /// A file with the layout that it was made by.
-#[derive(Clone)]
+#[derive(Clone, Debug)]
 pub struct EncodingFile {
+    /// What its header says.
     pub header: Header,
     /// How many specs there are.
     pub specs: u32,
     content: Vec<Entry>,
     encoding: Vec<Entry>,
+    /// The file.
     pub bytes: Vec<u8>,
 }
 
@@ -76,6 +81,7 @@ impl EncodingFile {
         }
     }
 
+    /// The sizes of the pages of a kind.
     pub fn sizes(&self, kind: Kind) -> TableSizes {
         match kind {
             Kind::Content => self.header.content,
@@ -98,10 +104,12 @@ impl EncodingFile {
             ..entries.partition_point(|entry| entry.page <= page)
     }
 
+    /// How many pages of a kind there are.
     pub fn pages(&self, kind: Kind) -> usize {
         self.sizes(kind).pages as usize
     }
 
+    /// Where the specs stand.
     pub fn spec_table(&self) -> Range<usize> {
         HEADER..HEADER + self.header.spec_size as usize
     }
@@ -120,28 +128,33 @@ impl EncodingFile {
         start..start + self.sizes(kind).pages_len()
     }
 
+    /// Where a page stands.
     pub fn page(&self, kind: Kind, page: usize) -> Range<usize> {
         let length = self.sizes(kind).page_len();
         let start = self.page_bytes(kind).start + page * length;
         start..start + length
     }
 
+    /// Where the stored first key of a page stands.
     pub fn first_key(&self, kind: Kind, page: usize) -> Range<usize> {
         let start = self.index(kind) + page * self.sizes(kind).index_entry_len();
         start..start + self.sizes(kind).key_len()
     }
 
+    /// Where the stored hash of a page stands.
     pub fn hash(&self, kind: Kind, page: usize) -> Range<usize> {
         let start = self.first_key(kind, page).end;
         start..start + 16
     }
 
+    /// Where an entry stands.
     pub fn entry(&self, kind: Kind, number: usize) -> Range<usize> {
         let Entry { page, at, length } = self.entries(kind)[number];
         let start = self.page(kind, page).start + at;
         start..start + length
     }
 
+    /// Where the key of an entry stands.
     pub fn key(&self, kind: Kind, number: usize) -> Range<usize> {
         let start = self.entry(kind, number).start
             + match kind {
@@ -162,12 +175,14 @@ impl EncodingFile {
         self.page_bytes(Kind::Encoding).end
     }
 
+    /// Stores the hash of a page.
     pub fn fix_hash(&mut self, kind: Kind, page: usize) {
         let hash = md5::digest(&self.bytes[self.page(kind, page)]);
         let stored = self.hash(kind, page);
         self.bytes[stored].copy_from_slice(&hash.expect("a page is below the limit"));
     }
 
+    /// Stores the hashes of all pages.
     pub fn fix_hashes(&mut self) {
         for kind in BOTH {
             for page in 0..self.pages(kind) {

@@ -1,5 +1,6 @@
-//! Random numbers, the same for each case of a seed.
+//! Random numbers: those of a seed are always the same.
 
+use std::env;
 use std::ops::RangeInclusive;
 
 /// splitmix64.
@@ -18,6 +19,16 @@ impl Random {
         }
     }
 
+    /// The numbers of a test, from the seed in DWARNIZZA_TEST_SEED or a fixed one, which is printed.
+    pub fn of_test() -> Self {
+        let seed = match env::var("DWARNIZZA_TEST_SEED") {
+            Ok(text) => text.parse().expect("DWARNIZZA_TEST_SEED is a number"),
+            Err(_) => 1321,
+        };
+        println!("DWARNIZZA_TEST_SEED={seed}");
+        Self { state: seed }
+    }
+
     /// Any 64 bits.
     pub fn word(&mut self) -> u64 {
         self.state = self.state.wrapping_add(0x9e37_79b9_7f4a_7c15);
@@ -31,6 +42,11 @@ impl Random {
     pub fn within(&mut self, range: RangeInclusive<usize>) -> usize {
         let (first, last) = range.into_inner();
         first + (self.word() % (last - first + 1) as u64) as usize
+    }
+
+    /// A number from 0 to `most`.
+    pub fn up_to(&mut self, most: usize) -> usize {
+        self.within(0..=most)
     }
 
     /// True once in so many times.
@@ -53,6 +69,13 @@ impl Random {
     /// So many bytes.
     pub fn bytes(&mut self, length: usize) -> Vec<u8> {
         let mut bytes = vec![0; length];
+        self.fill(&mut bytes);
+        bytes
+    }
+
+    /// An array of bytes.
+    pub fn array<const N: usize>(&mut self) -> [u8; N] {
+        let mut bytes = [0; N];
         self.fill(&mut bytes);
         bytes
     }

@@ -1,66 +1,30 @@
-//! Files for tests: good ones, and ones with chosen faults. Archive indexes here, the others in
-//! their modules.
-
-#![allow(dead_code, unused_imports)] // Each test uses a part of it.
-
-pub mod build;
-pub mod encoding;
-pub mod root;
-mod spoil;
-
-pub use spoil::{for_spoilt_files, spoil};
+//! Archive indexes.
 
 use std::ops::Range;
 
-use crate::compare::Context;
-use crate::random::Random;
 use second::index::{FOOTER, PAGE, Settings};
 use second::md5;
 
-/// The name of a kind of files, and what makes a file of it from a good one.
-pub type FileKind<F> = (&'static str, fn(&mut Random, F) -> Vec<u8>);
+use super::flip;
+use crate::random::Random;
 
-/// Makes a file of one of these kinds from a good one, and names the kind.
-pub fn of_random_kind<F: Clone>(
-    random: &mut Random,
-    kinds: &[FileKind<F>],
-    good: &F,
-) -> (&'static str, Vec<u8>) {
-    let (name, make) = kinds[random.up_to(kinds.len() - 1)];
-    (name, make(random, good.clone()))
-}
-
-/// Goes through so many files of these kinds, some from each good one.
-pub fn for_files_of<F: Clone>(
-    kinds: &[FileKind<F>],
-    files: u64,
-    make_good: impl Fn(&mut Random) -> F,
-    mut each: impl FnMut(&mut Random, &F, &[u8]),
-) {
-    const FROM_EACH: u64 = 12;
-
-    let mut random = Random::new();
-    for first in (0..files).step_by(FROM_EACH as usize) {
-        let good = make_good(&mut random);
-        for number in first..first + FROM_EACH {
-            let (kind, file) = of_random_kind(&mut random, kinds, &good);
-            let _context = Context { number, kind };
-            each(&mut random, &good, &file);
-        }
-    }
-}
-
-// Where the fields stand in the footer.
+/// Where the footer has the version, the first of the fields of one byte.
 pub const VERSION: usize = 8;
+
+/// Where it has the hash length, the last of them.
 pub const HASH_LENGTH: usize = 15;
+
+/// Where it has the number of entries.
 pub const COUNT: Range<usize> = 16..20;
+
+/// Where it has its own hash.
 pub const FOOTER_HASH: Range<usize> = 20..28;
 
 /// How many bytes of an MD5 are stored.
 const HASH: usize = 8;
 
 /// Version 1 with these.
-pub fn settings(key_length: u32, offset_width: u32) -> Settings {
+pub const fn settings(key_length: u32, offset_width: u32) -> Settings {
     Settings {
         version: 1,
         offset_width,
@@ -79,10 +43,13 @@ pub fn keys(settings: Settings) -> usize {
 }
 
 /// A file with the layout that it was made by.
-#[derive(Clone)]
+#[derive(Clone, Debug)]
 pub struct IndexFile {
+    /// Its settings.
     pub settings: Settings,
+    /// How many entries it has.
     pub entries: usize,
+    /// The file.
     pub bytes: Vec<u8>,
 }
 
@@ -125,6 +92,7 @@ impl IndexFile {
         Self::random(random, settings, entries)
     }
 
+    /// How many pages it has.
     pub fn pages(&self) -> usize {
         self.settings.pages(self.entries)
     }
@@ -139,6 +107,7 @@ impl IndexFile {
         ((page + 1) * self.settings.entries_per_page()).min(self.entries) - 1
     }
 
+    /// The bytes of a page.
     pub fn page(&mut self, page: usize) -> &mut [u8] {
         &mut self.bytes[page * PAGE..][..PAGE]
     }
@@ -150,6 +119,7 @@ impl IndexFile {
         &mut self.page(page)[start..]
     }
 
+    /// The bytes of an entry.
     pub fn entry(&mut self, number: usize) -> &mut [u8] {
         let length = self.settings.entry_len();
         let slot = number % self.settings.entries_per_page();
@@ -157,22 +127,26 @@ impl IndexFile {
         &mut self.page(page)[slot * length..][..length]
     }
 
+    /// The key of an entry.
     pub fn key(&mut self, number: usize) -> &mut [u8] {
         let length = self.settings.key_len();
         &mut self.entry(number)[..length]
     }
 
+    /// The stored last key of a page.
     pub fn last_key(&mut self, page: usize) -> &mut [u8] {
         let length = self.settings.key_len();
         let start = self.pages() * PAGE + page * length;
         &mut self.bytes[start..][..length]
     }
 
+    /// The stored hash of a page.
     pub fn page_hash(&mut self, page: usize) -> &mut [u8] {
         let start = self.pages() * (PAGE + self.settings.key_len()) + page * HASH;
         &mut self.bytes[start..][..HASH]
     }
 
+    /// The footer.
     pub fn footer(&mut self) -> &mut [u8] {
         let start = self.bytes.len() - FOOTER;
         &mut self.bytes[start..]
@@ -184,21 +158,25 @@ impl IndexFile {
         self.fix_footer_hash();
     }
 
+    /// Stores the last key of a page.
     pub fn fix_last_key(&mut self, page: usize) {
         let key = self.key(self.last_entry(page)).to_vec();
         self.last_key(page).copy_from_slice(&key);
     }
 
+    /// Stores the hash of a page.
     pub fn fix_page_hash(&mut self, page: usize) {
         let hash = first_8(self.page(page));
         self.page_hash(page).copy_from_slice(&hash);
     }
 
+    /// Stores the hash of the last keys and page hashes.
     pub fn fix_contents_hash(&mut self) {
         let hash = first_8(&self.bytes[self.pages() * PAGE..self.bytes.len() - FOOTER]);
         self.footer()[..HASH].copy_from_slice(&hash);
     }
 
+    /// Stores the footer's own hash.
     pub fn fix_footer_hash(&mut self) {
         let footer = self.footer();
         footer[FOOTER_HASH].fill(0);
@@ -358,12 +336,6 @@ pub fn count_down(key: &mut [u8]) {
         key[last] -= 1;
         key[last + 1..].fill(0xff);
     }
-}
-
-/// Makes one byte another.
-pub fn flip(random: &mut Random, bytes: &mut [u8]) {
-    let place = random.up_to(bytes.len() - 1);
-    bytes[place] ^= 1 + random.up_to(254) as u8;
 }
 
 fn first_8(data: &[u8]) -> [u8; HASH] {

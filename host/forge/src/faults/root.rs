@@ -1,10 +1,8 @@
 //! Root files.
 
-use dwarnizza::{Reason, Refusal};
+use second::refusal::{self, Refusal};
 use second::root::{BlockParts, Header, MAGICS, Record, write};
 
-use super::{FileKind, flip};
-use crate::compare::refusal_at;
 use crate::random::Random;
 
 /// The content flag that drops name hashes where there is a magic.
@@ -14,10 +12,13 @@ pub const NO_NAME_HASHES: u32 = 1 << 13;
 const MIDDLE: i64 = 1 << 31;
 
 /// A file with the parts that it was made of.
-#[derive(Clone)]
+#[derive(Clone, Debug)]
 pub struct RootFile {
+    /// Its header; none without a magic.
     pub header: Option<Header>,
+    /// Its blocks.
     pub blocks: Vec<BlockParts>,
+    /// The file.
     pub bytes: Vec<u8>,
 }
 
@@ -31,6 +32,7 @@ pub enum Fault {
 }
 
 impl RootFile {
+    /// The file of these parts.
     pub fn new(header: Option<Header>, blocks: Vec<BlockParts>) -> Self {
         let bytes = write(header, &blocks);
         Self {
@@ -110,11 +112,10 @@ impl RootFile {
 
     /// What a file with this fault first is refused with.
     pub fn refusal(&self, block: usize, fault: Fault) -> Refusal {
-        let reason = match fault {
-            Fault::Cut => Reason::BlockCut,
-            Fault::Id => Reason::IdRange,
-        };
-        refusal_at(reason, self.place(block))
+        match fault {
+            Fault::Cut => refusal::block_cut(self.place(block)),
+            Fault::Id => refusal::id_range(self.place(block)),
+        }
     }
 
     /// Puts a fault into a block of a good file. Other blocks stay as they are.
@@ -226,139 +227,4 @@ pub fn random_masks(random: &mut Random) -> (u32, u64) {
     let locale = [u32::MAX, random_flags(random)][random.up_to(1)];
     let unwanted = [0, 0, random_flags(random).into(), random.word()][random.up_to(3)];
     (locale, unwanted)
-}
-
-/// All kinds of files.
-pub const KINDS: [FileKind<RootFile>; 11] = [
-    ("good", good),
-    ("bytes flipped anywhere", flipped),
-    ("one fault", one_fault),
-    ("two faults", two_faults),
-    ("another count", another_count),
-    ("another delta", another_delta),
-    ("other flags", other_flags),
-    ("other header", other_header),
-    ("cut", cut),
-    ("extended", extended),
-    ("random bytes", random_bytes),
-];
-
-fn good(_: &mut Random, file: RootFile) -> Vec<u8> {
-    file.bytes
-}
-
-fn flipped(random: &mut Random, mut file: RootFile) -> Vec<u8> {
-    for _ in 0..=random.up_to(2) {
-        if !file.bytes.is_empty() {
-            flip(random, &mut file.bytes);
-        }
-    }
-    file.bytes
-}
-
-/// A fault that the file can have, if it has a block.
-fn any_fault(random: &mut Random, file: &RootFile) -> Option<(usize, Fault)> {
-    let block = random.up_to(file.blocks.len().checked_sub(1)?);
-    let empty = file.blocks[block].records.is_empty();
-    match empty || random.up_to(1) == 0 {
-        true => Some((block, Fault::Cut)),
-        false => Some((block, Fault::Id)),
-    }
-}
-
-fn one_fault(random: &mut Random, mut file: RootFile) -> Vec<u8> {
-    if let Some((block, fault)) = any_fault(random, &file) {
-        file.put_fault(random, block, fault);
-    }
-    file.bytes
-}
-
-fn two_faults(random: &mut Random, file: RootFile) -> Vec<u8> {
-    let bytes = one_fault(random, file.clone());
-    one_fault(random, RootFile { bytes, ..file })
-}
-
-/// The first four bytes of a block.
-fn another_count(random: &mut Random, mut file: RootFile) -> Vec<u8> {
-    if let Some(last) = file.blocks.len().checked_sub(1) {
-        let block = random.up_to(last);
-        let count = file.blocks[block].records.len();
-        let near = (count as u32 + 1).saturating_sub(random.up_to(2) as u32);
-        let count = [near, random.up_to(40) as u32, random.word() as u32];
-        file.put(file.place(block), count[random.up_to(2)]);
-    }
-    file.bytes
-}
-
-fn another_delta(random: &mut Random, mut file: RootFile) -> Vec<u8> {
-    let records: Vec<_> = file.records().collect();
-    if let Some(last) = records.len().checked_sub(1) {
-        let (block, record) = records[random.up_to(last)];
-        let near = -3 + random.up_to(6) as i32;
-        let delta = [near as u32, random.word() as u32];
-        file.put(file.delta(block, record), delta[random.up_to(1)]);
-    }
-    file.bytes
-}
-
-/// Other flags in place of one of a block's two fields, so that name hashes may be missing or too
-/// many.
-fn other_flags(random: &mut Random, mut file: RootFile) -> Vec<u8> {
-    if let Some(last) = file.blocks.len().checked_sub(1) {
-        let at = file.place(random.up_to(last)) + 4 + 4 * random.up_to(1);
-        file.put(at, random_flags(random));
-    }
-    file.bytes
-}
-
-/// The same blocks behind another header, behind none, or behind one that says something else.
-fn other_header(random: &mut Random, mut file: RootFile) -> Vec<u8> {
-    let header = match random.up_to(2) {
-        0 => random_header(random),
-        _ => Some(Header {
-            magic: MAGICS[random.up_to(1)],
-            a: random.up_to(120) as u32,
-            b: random.up_to(5) as u32,
-        }),
-    };
-    let blocks = file.bytes.split_off(file.place(0));
-    let mut bytes = write(header, &[]);
-    if random.up_to(2) == 0 && bytes.len() >= 12 {
-        // As a long header may be: cut, or longer than it says.
-        bytes.resize(12 + random.up_to(90), 0xee);
-    }
-    bytes.extend(blocks);
-    bytes
-}
-
-fn cut(random: &mut Random, file: RootFile) -> Vec<u8> {
-    let mut bytes = file.bytes;
-    let length = bytes.len();
-    let least = length - [1, 24, length][random.up_to(2)].min(length);
-    bytes.truncate(least + random.up_to(length - least));
-    bytes
-}
-
-fn extended(random: &mut Random, file: RootFile) -> Vec<u8> {
-    let mut bytes = file.bytes;
-    let more = 1 + random.up_to(50);
-    match random.up_to(1) {
-        0 => bytes.resize(bytes.len() + more, 0),
-        _ => bytes.extend(random.bytes(more)),
-    }
-    bytes
-}
-
-/// Random bytes, mostly small ones so that counts are too, and often with a magic in front.
-fn random_bytes(random: &mut Random, _: RootFile) -> Vec<u8> {
-    let length = random.up_to(200);
-    let mut bytes = random.bytes(length);
-    if random.up_to(3) > 0 {
-        for byte in &mut bytes {
-            *byte = [0, 0, 0, 0, 1, 2, *byte][random.up_to(6)];
-        }
-    }
-    let kept = [0, 4][random.up_to(1)].min(length);
-    bytes[..kept].copy_from_slice(&MAGICS[random.up_to(1)][..kept]);
-    bytes
 }

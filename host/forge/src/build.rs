@@ -7,7 +7,7 @@ mod keys;
 mod root;
 
 pub use encoding::{Encoding, KeySizes};
-pub use envelope::Envelope;
+pub use envelope::{BEFORE_ROWS, Envelope, ROW};
 pub use index::{Index, List};
 pub use keys::{rising, sought};
 pub use root::{Root, flags};

@@ -1,10 +1,9 @@
 //! Faults of encoding files.
 
-use dwarnizza::{Reason, Refusal};
+use second::refusal::{self, Refusal};
 
 use super::{BOTH, EncodingFile, Kind};
-use crate::compare::refusal_at;
-use crate::forge::flip;
+use crate::faults::flip;
 use crate::random::Random;
 
 /// A fault, in the order in which they are judged.
@@ -40,20 +39,19 @@ pub enum PageFault {
 impl Fault {
     /// What a file with this fault first is refused with.
     pub fn refusal(self) -> Refusal {
-        let (reason, place) = match self {
-            Fault::Magic => (Reason::NotEncoding, 0),
-            Fault::Field => (Reason::EncodingHeader, 0),
-            Fault::Cut => (Reason::EncodingCut, 0),
-            Fault::OpenSpecs => (Reason::SpecTableOpen, 0),
+        match self {
+            Fault::Magic => refusal::NOT_AN_ENCODING_FILE,
+            Fault::Field => refusal::ENCODING_HEADER,
+            Fault::Cut => refusal::PARTS_PAST_END,
+            Fault::OpenSpecs => refusal::LAST_SPEC,
             Fault::Page(_, page, fault) => match fault {
-                PageFault::Hash => (Reason::EncodingPageHash, page),
-                PageFault::OverEnd => (Reason::EntryOverPage, page),
-                PageFault::FirstKey => (Reason::FirstKey, page),
-                PageFault::Order => (Reason::EncodingOrder, page),
-                PageFault::Spec => (Reason::SpecNumber, 0),
+                PageFault::Hash => refusal::encoding_page_hash(page),
+                PageFault::OverEnd => refusal::entry_over_page_end(page),
+                PageFault::FirstKey => refusal::first_key(page),
+                PageFault::Order => refusal::encoding_order(page),
+                PageFault::Spec => refusal::SPEC_NUMBER,
             },
-        };
-        refusal_at(reason, place)
+        }
     }
 }
 

@@ -1,14 +1,15 @@
-//! Indexes for tests, by the second program.
-#![allow(dead_code)] // not every test needs every kind
+//! Indexes of counted entries.
 
 use second::index::Settings;
 
+/// Version 1, W 4 and K 16.
 pub const W4: Settings = Settings {
     version: 1,
     offset_width: 4,
     key_length: 16,
 };
 
+/// Version 1, W 6 and K 16.
 pub const W6: Settings = Settings {
     version: 1,
     offset_width: 6,

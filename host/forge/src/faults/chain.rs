@@ -7,8 +7,8 @@ use second::index::Settings;
 use second::root::{BlockParts, Record};
 
 use super::encoding::{EncodingFile, Kind};
+use super::index::IndexFile;
 use super::root::RootFile;
-use super::{IndexFile, encoding, of_random_kind, root, spoil};
 use crate::random::Random;
 
 /// The bytes of root file, encoding file and index.
@@ -80,10 +80,13 @@ pub fn index_file(settings: Settings, entries: &ByKey) -> IndexFile {
 }
 
 /// A build with the layout that its files were made by.
-#[derive(Clone)]
+#[derive(Clone, Debug)]
 pub struct BuildFiles {
+    /// The root file.
     pub root: RootFile,
+    /// The encoding file.
     pub encoding: EncodingFile,
+    /// The index.
     pub index: IndexFile,
 }
 
@@ -113,23 +116,9 @@ impl BuildFiles {
         }
     }
 
+    /// The bytes of all three.
     pub fn files(&self) -> Files {
         [&self.root.bytes, &self.encoding.bytes, &self.index.bytes].map(Vec::clone)
-    }
-
-    /// The files with random faults of every kind in one of them, or in all, and the kinds.
-    pub fn spoilt(&self, random: &mut Random) -> ([&'static str; 3], Files) {
-        let mut kinds = ["good"; 3];
-        let mut files = self.files();
-        let chosen = random.up_to(3);
-        for number in (0..3).filter(|&number| chosen == number || chosen == 3) {
-            (kinds[number], files[number]) = match number {
-                0 => of_random_kind(random, &root::KINDS, &self.root),
-                1 => of_random_kind(random, &encoding::KINDS, &self.encoding),
-                _ => spoil(random, &self.index),
-            };
-        }
-        (kinds, files)
     }
 }
 
