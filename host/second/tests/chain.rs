@@ -62,7 +62,7 @@ fn key_run(keys: &[u8], key_size: u8) -> Vec<u8> {
 }
 
 /// An index of these keys, each of one byte, with its number as size and location.
-fn index(key_length: u8, keys: &[u8]) -> Vec<u8> {
+fn index(key_length: u32, keys: &[u8]) -> Vec<u8> {
     let settings = Settings {
         version: 1,
         offset_width: 4,
@@ -70,7 +70,7 @@ fn index(key_length: u8, keys: &[u8]) -> Vec<u8> {
     };
     let mut list = Vec::new();
     for (number, &key) in (0u32..).zip(keys) {
-        list.extend(vec![key; key_length.into()]);
+        list.extend(vec![key; settings.key_len()]);
         list.extend([number.to_be_bytes(); 2].as_flattened());
     }
     let mut file = vec![0; settings.file_len(keys.len())];

@@ -20,7 +20,7 @@ fn settings(offset_width: u32, key_length: u32) -> Settings {
 }
 
 fn key_of(text: &str) -> Vec<u8> {
-    key::from_text(text.as_bytes(), (text.len() / 2) as u8).unwrap()
+    key::from_text(text.as_bytes(), (text.len() / 2) as u32).unwrap()
 }
 
 /// 002: "With 16-byte keys: 16 + 4 + 4 = 24 bytes per entry", "With 9-byte keys: 9 + 4 + 4 = 17",
