@@ -201,11 +201,13 @@ uint32_t dwarnizza_md5_finish(const uint32_t words[4], const uint8_t pending[64]
  *
  * The full check refuses with the first that holds, in this order:
  *
- *     1, 2, 3, 4, 5   the file is too short, or its footer or length is wrong
+ *     the opening checks:
+ *     1, 2, 3, 4   the file is too short, or its footer is wrong
+ *     5            its length is not the one that follows from the footer
  *     page by page:
- *     6, 7            the page's hash is wrong, its padding is not zero
- *     8               a key on it is not above the one before
- *     9               its stored last key is wrong
+ *     6, 7         the page's hash is wrong, its padding is not zero
+ *     8            a key on it is not above the one before
+ *     9            its stored last key is wrong
  *
  * The list of an index is its entries' bytes, in order, with nothing between:
  * n * (K + 4 + W) bytes, fewer than the index has.
@@ -220,35 +222,35 @@ uint32_t dwarnizza_index_check(const uint8_t *index, size_t index_len,
                                uint64_t answer[8]);
 
 /*
- * What the footer of an index says, by 1 to 5 of the full check alone: no page
- * is looked at, so that this is no check of the index.
+ * What the footer of an index says, by the opening checks alone: no page is
+ * looked at, so this does not check the index.
  * Answered: answer[0] is the version, [1] W, [2] K, [3] n, [4] P.
- * Refused: 1 to 5 as the full check refuses.
+ * Refused: as the opening checks refuse.
  */
 uint32_t dwarnizza_index_settings(const uint8_t *index, size_t index_len,
                                   uint64_t answer[8]);
 
 /*
- * The entry of a number, counted from 0 through the whole file, by 1 to 5 of
- * the full check alone. The entries 0 to n - 1, in order, are those of the
+ * The entry with this number, counted from 0 through the whole file, by the
+ * opening checks alone. The entries 0 to n - 1, in order, are those of the
  * list.
  * Answered: answer[0] is where in the index its key stands, [1] K, [2] the
  * encoded size, [3] the archive number, which is 0 where W is not 6, [4] the
  * offset, [5] the page, [6] the slot.
  * Absent: number is n or more; no word of the answer is named.
- * Refused: 1 to 5 as the full check refuses.
+ * Refused: as the opening checks refuse.
  */
 uint32_t dwarnizza_index_entry(const uint8_t *index, size_t index_len,
                                uint64_t number, uint64_t answer[8]);
 
 /*
- * What the footer of an index says, by 1 to 4 of the full check alone: the
- * length is not judged, so that the last 28 bytes of a file are enough. It is
- * no check of the index.
+ * What the footer of an index says, by the opening checks but 5: the length is
+ * not judged, so that the last 28 bytes of a file are enough. This does not
+ * check the index.
  * Answered: answer[0] is the version, [1] W, [2] K, [3] n, [4] P, [5] the
  * length of the whole file that has this footer, [6] the length of the footer,
  * 28.
- * Refused: 1 to 4 as the full check refuses.
+ * Refused: as the opening checks but 5 refuse.
  */
 uint32_t dwarnizza_index_footer(const uint8_t *index, size_t index_len,
                                 uint64_t answer[8]);
@@ -267,14 +269,14 @@ uint32_t dwarnizza_index_loose(const uint8_t *index, size_t index_len,
                                uint64_t answer[8]);
 
 /*
- * Where a page of an index and its parts stand, by 1 to 5 of the full check
- * alone. Places are byte offsets in the index, lengths are in bytes.
+ * Where a page of an index and its parts stand, by the opening checks alone.
+ * Places are byte offsets in the index, lengths are in bytes.
  * Answered: answer[0] is the place of the page, [1] its length, 4,096, [2] the
  * place of its stored last key, [3] the length of that, K, [4] the place of its
  * stored hash, [5] the length of that, 8, [6] the number of its first entry,
  * [7] how many entries it has.
  * Absent: page is P or more; no word of the answer is named.
- * Refused: 1 to 5 as the full check refuses.
+ * Refused: as the opening checks refuse.
  */
 uint32_t dwarnizza_index_page(const uint8_t *index, size_t index_len,
                               uint64_t page, uint64_t answer[8]);
@@ -372,18 +374,18 @@ uint32_t dwarnizza_index_listing(const uint8_t *input, size_t input_len,
  * comparison of a stored key counts one. A page counts from 0, and a slot from
  * 0 within its page.
  *
- * Of the full check it makes 1 to 5 alone. On an index that passes the full
- * check it finds exactly the keys that stand in it, with no more comparisons
- * than dwarnizza_index_bound says. On one that passes 1 to 5 only it answers
- * by the same rule, and may miss a key: check an index once before it is
- * searched.
+ * Of the full check it makes the opening checks alone. On an index that passes
+ * the full check it finds exactly the keys that stand in it, with no more
+ * comparisons than dwarnizza_index_bound says. On one that passes only the
+ * opening checks it answers by the same rule, and may miss a key: check an
+ * index once before it is searched.
  *
  * Answered: the key is found; answer[0] is the page, [1] the slot, [2] the
  * encoded size, [3] the location as one number, [4] how many keys were
  * compared. With W = 6 the location is an archive number, answer[3] >> 32, and
  * an offset, answer[3] & 0xffffffff.
  * Absent: answer[4] is how many keys were compared.
- * Refused: 1 to 5 as the full check refuses; then 10 where key_len is not K.
+ * Refused: as the opening checks refuse; then 10 where key_len is not K.
  */
 uint32_t dwarnizza_index_lookup(const uint8_t *index, size_t index_len,
                                 const uint8_t *key, size_t key_len,
@@ -393,7 +395,7 @@ uint32_t dwarnizza_index_lookup(const uint8_t *index, size_t index_len,
  * The most comparisons that a lookup makes.
  * Answered: answer[0] is the binary digits of P, and those of the entry count
  * of a full page, 4096 / (K + 4 + W) rounded down, and 1.
- * Refused: 1 to 5 as the full check refuses.
+ * Refused: as the opening checks refuse.
  */
 uint32_t dwarnizza_index_bound(const uint8_t *index, size_t index_len,
                                uint64_t answer[8]);
@@ -526,7 +528,7 @@ uint32_t dwarnizza_encoding_find_encoding(const uint8_t *file, size_t file_len,
                                           uint64_t answer[8]);
 
 /*
- * The spec of a number.
+ * The spec with this number.
  * Answered: answer[0] and [1] are the place and the length of the spec, without
  * its zero byte.
  * Refused: 30 to 33 as the full check refuses; then 38 where the number is past
@@ -622,8 +624,8 @@ uint32_t dwarnizza_root_find_many(const uint8_t *file, size_t file_len,
  * Absent: answer[2] is the link; at link 3 answer[4] is how many stored keys of
  * the index were compared.
  * Refused: as the lookup of the link refuses; answer[2] is the link. At link 2
- * that is 39 where C is not 16, and at link 3, after 1 to 5, 10 where K is not
- * E. A key is never cut or filled up.
+ * that is 39 where C is not 16, and at link 3, after the opening checks of the
+ * index, 10 where K is not E. A key is never cut or filled up.
  */
 uint32_t dwarnizza_resolve(const uint8_t *root, size_t root_len,
                            const uint8_t *encoding, size_t encoding_len,

@@ -29,7 +29,7 @@ pub struct File {
 }
 
 impl File {
-    /// The encoding keys of its content entries are keys of an index of so many entries.
+    /// The encoding keys of its content entries are keys of an index of `indexed` entries.
     pub fn new((entries, spec_table_length): (usize, usize), indexed: usize) -> Self {
         let specs = spec_table(spec_table_length);
         let spec_count = specs.iter().filter(|&&byte| byte == 0).count();

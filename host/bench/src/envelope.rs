@@ -20,7 +20,7 @@ struct File {
 }
 
 impl File {
-    /// So many chunks of so many bytes, with a table.
+    /// `chunks` chunks of `length` bytes, with a table.
     fn new((chunks, length): (usize, usize)) -> Self {
         let parts: Vec<_> = (0..chunks).map(|number| chunk(number, length)).collect();
         let bytes = with_table(&parts);

@@ -38,8 +38,8 @@ pub struct File {
 }
 
 impl File {
-    /// So many entries, whose keys, sizes and locations are spread by a fixed rule: the first eight
-    /// bytes of the keys are evenly apart.
+    /// An index of this number of entries, whose keys, sizes and locations are spread by a fixed
+    /// rule: the first eight bytes of the keys are evenly apart.
     pub fn new(entries: usize) -> Self {
         let mut list = Vec::with_capacity(entries * SETTINGS.entry_len());
         for number in 0..entries {
@@ -99,7 +99,7 @@ impl File {
     }
 }
 
-/// The key of an entry of so many.
+/// The key of the entry with this number, in an index of `entries` entries.
 pub fn key(number: usize, entries: usize) -> Key {
     let high = number as u64 * (u64::MAX / entries as u64);
     both(high, mixed(number as u64))

@@ -9,7 +9,7 @@ const COUNT: u64 = 1 << 16;
 
 pub type Key = [u8; 16];
 
-/// The key of an entry of so many.
+/// The key of an entry, by its number and the number of all entries.
 pub type KeyOfNumber = fn(usize, usize) -> Key;
 
 /// What is sought.
@@ -20,7 +20,7 @@ pub enum Sought {
 }
 
 impl Sought {
-    /// Random keys of so many entries, of which this gives the key of each; or keys that none of
+    /// Random keys of `entries` entries, of which this gives the key of each; or keys that none of
     /// them has.
     pub fn keys(self, entries: usize, key: KeyOfNumber) -> Vec<Key> {
         let keys = (0..COUNT).map(|number| match self {
@@ -52,7 +52,7 @@ pub fn both(high: u64, low: u64) -> Key {
     (u128::from(high) << 64 | u128::from(low)).to_be_bytes()
 }
 
-/// What the call of a number is given: the file and one of the keys.
+/// What the call with a number is given: the file and one of the keys.
 pub fn by_key<'a>(file: &'a [u8], keys: &'a [Key]) -> Box<dyn Fn(u64) -> Given<'a> + 'a> {
     Box::new(move |number| Given::new([file, &keys[(number % COUNT) as usize]], []))
 }

@@ -21,7 +21,7 @@ const TIMED: usize = 20;
 /// How many bytes are written for each id.
 pub const FOUND: usize = 20;
 
-/// So many ids that rise, nine in ten of them in a file of so many records, as bytes.
+/// `ids` ids that rise, nine in ten of them in a file of `records` records, as bytes.
 pub fn rising(ids: usize, records: usize) -> Vec<u8> {
     let most = records as u64 * 10 / 9;
     let mut ids: Vec<u32> = (0..ids as u64)

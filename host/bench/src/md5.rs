@@ -63,7 +63,7 @@ fn in_parts(table: &mut Table, data: &[u8], size: usize) {
     });
 }
 
-/// Hashes the data so many times.
+/// Hashes the data as often as the contender is told.
 fn repeated<'a>(data: &'a [u8], task: impl Fn(&[u8]) -> [u8; 16] + 'a) -> Contender<'a> {
     Box::new(move |times| {
         for _ in 0..times {

@@ -8,7 +8,7 @@ pub const ROUNDS: usize = 21;
 /// How long one timing takes at least.
 pub const BATCH: Duration = Duration::from_millis(10);
 
-/// One of those to be compared: does the task so many times.
+/// One of those to be compared: does the task as often as it is told.
 pub type Contender<'a> = Box<dyn FnMut(u64) + 'a>;
 
 /// The seconds that each contender takes for the task: the best of the rounds, since what else the

@@ -33,9 +33,9 @@ pub struct File {
 }
 
 impl File {
-    /// So many blocks, whose ids are as far apart as there are blocks, so that all go through the
-    /// same range. The keys of the records are the content keys of an encoding file of so many
-    /// entries.
+    /// A file of `blocks` blocks, whose ids are as far apart as there are blocks, so that all go
+    /// through the same range. The keys of the records are the content keys of an encoding file of
+    /// `entries` entries.
     pub fn new(header: Option<Header>, blocks: u32, entries: usize) -> Self {
         let parts = (0..blocks).map(|block| {
             let records = (0..RECORDS).map(|record| {

@@ -22,7 +22,7 @@ pub struct Call<'a> {
     pub size: usize,
     /// Of what.
     pub unit: &'static str,
-    /// What the call of a number is given.
+    /// What the call with a number is given.
     pub given: Box<dyn Fn(u64) -> Given<'a> + 'a>,
     /// The result of the call.
     pub result: u32,

@@ -117,7 +117,7 @@ fn repeated<'a>(task: impl Fn() -> usize + 'a) -> Contender<'a> {
     })
 }
 
-/// A quoted field with so many bytes between its quotes, every tenth two of them a quote.
+/// A quoted field with `length` bytes between its quotes, every tenth two of them a quote.
 fn quoted(length: usize) -> Vec<u8> {
     let content = (0..length).map(|byte| match byte % 20 {
         4 | 5 => b'"',

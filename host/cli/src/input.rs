@@ -58,8 +58,8 @@ pub fn read_judged(
     Err(too_long(name, MOST))
 }
 
-/// The bytes of an archive index. A file on disk that refusals 1 to 5 hold of is refused by its
-/// length and its last bytes, before it is read whole.
+/// The bytes of an archive index. A file on disk that fails the opening checks is refused by
+/// its length and its last bytes, before it is read whole.
 pub fn read_index(name: &OsStr) -> Result<Vec<u8>, Failure> {
     let failed = |error| Failure::reading(name, &error);
     let mut file = open(name)?;
@@ -85,7 +85,7 @@ fn length_left(file: &mut File) -> io::Result<Option<u64>> {
     Ok(Some(metadata.len().saturating_sub(place)))
 }
 
-/// The first and the last bytes of the next so many, which are then still to be read.
+/// The first and the last of the next `length` bytes, which are then still to be read.
 fn ends(file: &mut File, length: u64) -> io::Result<[Vec<u8>; 2]> {
     let start = file.stream_position()?;
     let first = read_at_most(file, END.min(length))?;
@@ -95,7 +95,7 @@ fn ends(file: &mut File, length: u64) -> io::Result<[Vec<u8>; 2]> {
     Ok([first, last])
 }
 
-/// The next bytes, so many at most.
+/// The next bytes, `most` at most.
 fn read_at_most(file: &mut File, most: u64) -> io::Result<Vec<u8>> {
     let mut bytes = Vec::new();
     file.take(most).read_to_end(&mut bytes)?;

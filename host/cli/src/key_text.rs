@@ -5,7 +5,7 @@ use dwarnizza::Key;
 use crate::looks::looks;
 use crate::name::shown_bytes;
 
-/// The key of so many bytes that this is the text of, or why it is none. A short text is never
+/// The key of this length that this is the text of, or why it is none. A short text is never
 /// padded and no text is cut.
 pub fn key(text: &[u8], key_length: u8) -> Result<Key, String> {
     Key::from_text(text, key_length).map_err(|refusal| {

@@ -33,7 +33,7 @@ fn end_late(folder: &Path) {
     });
 }
 
-/// What a run says before it waits for the pipe, of which so many lines are awaited; it is killed then.
+/// What a run says before it waits for the pipe: `lines` lines are awaited, then it is killed.
 fn said_before_the_end(folder: &Path, arguments: &[&str], lines: usize) -> Vec<String> {
     end_late(folder);
     let mut command = dwarnizza(arguments);

@@ -224,7 +224,7 @@ impl<'a> CheckedEncoding<'a> {
         self.unchecked.find_encoding(key)
     }
 
-    /// The spec of a number, from 0, without its closing zero.
+    /// The spec with this number, from 0, without its closing zero.
     ///
     /// Refused with [`SpecNumber`](crate::Reason::SpecNumber) where the table has no spec of this
     /// number.
@@ -333,7 +333,7 @@ impl<'a> UncheckedEncoding<'a> {
             }))
     }
 
-    /// The spec of a number, from 0, without its closing zero.
+    /// The spec with this number, from 0, without its closing zero.
     ///
     /// Refused, after header and parts, with [`SpecNumber`](crate::Reason::SpecNumber) where the
     /// table has no spec of this number.

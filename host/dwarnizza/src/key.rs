@@ -26,7 +26,7 @@ pub struct Key {
 }
 
 impl Key {
-    /// The key of so many bytes that this is the text of: two hex digits for each byte, in either
+    /// The key of this length that this is the text of: two hex digits for each byte, in either
     /// case, and nothing else. A key is never cut or filled up.
     ///
     /// Refused, by the first that holds, with [`Settings`] where the key length is not 1 to 16,

@@ -64,7 +64,8 @@ macro_rules! reasons {
 }
 
 // Name, number, subject, words, and what the place counts where the number names one.
-// `include/dwarnizza.h` has the same rows for C and Python, and N1 of docs/RULES.md the rule of each.
+// `include/dwarnizza.h` has the same rows for C and Python, and N1 of docs/RULES.md the rule of
+// each.
 reasons! {
     IndexShort = 1, IndexOpening, "index under 28 bytes";
     FooterField = 2, IndexOpening, "a footer field outside its list";
@@ -145,7 +146,7 @@ impl Reason {
         self as u32
     }
 
-    /// The reason of a number; none where no reason has it.
+    /// The reason with this number; none where no reason has it.
     ///
     /// ```
     /// use dwarnizza::Reason;

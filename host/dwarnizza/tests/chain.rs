@@ -161,7 +161,7 @@ fn encoding_key(id: u32, number: u8, length: usize) -> Vec<u8> {
     second::md5::digest(&key).unwrap()[..length].to_vec()
 }
 
-/// The encoding keys of an id, so many, one after the other.
+/// The first `count` encoding keys of an id, one after the other.
 fn encoding_keys(id: u32, count: u8, length: usize) -> Vec<u8> {
     let keys = (0..count).map(|number| encoding_key(id, number, length));
     keys.flatten().collect()

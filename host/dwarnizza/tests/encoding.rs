@@ -60,7 +60,7 @@ fn compare_encoding<'a>(file: &'a [u8], key: &[u8]) -> Result<Option<EncodingEnt
     answer
 }
 
-/// The same for the spec of a number.
+/// The same for the spec with a number.
 #[track_caller]
 fn compare_spec(file: &[u8], number: u32) -> Result<&[u8], Refusal> {
     let answer = second::encoding::spec(file, number).map_err(in_library_terms);
@@ -350,8 +350,8 @@ fn first_keys_in_any_order() {
     }
 }
 
-/// A small file with a full content page, whose entries start at bytes 0, 262, 524 and 786, and where
-/// its pages stand.
+/// A small file with a full content page, whose entries start at bytes 0, 262, 524 and 786, and
+/// where its pages stand.
 fn full_page() -> (Vec<u8>, [Range<usize>; 2]) {
     let long = |key, count: u8| {
         let mut entry = vec![count, 0, 0, 0, 0, 7, key];

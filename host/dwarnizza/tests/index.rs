@@ -32,7 +32,7 @@ fn second_check(file: &[u8]) -> Answer {
     Ok(summary_of(&index))
 }
 
-/// Refusals 1 to 5 and what the footer says, by the second program.
+/// The opening checks and what the footer says, by the second program.
 fn second_summary(file: &[u8]) -> Answer {
     let index = second::index::Index::open(file).map_err(in_library_terms)?;
     Ok(summary_of(&index))

@@ -123,7 +123,7 @@ fn every_length() {
     tally.print([11, 60]);
 }
 
-/// So many hex digits of either case.
+/// Hex digits of either case, `length` of them.
 fn digits(random: &mut Random, length: usize) -> Vec<u8> {
     let digits = b"0123456789abcdefABCDEF";
     (0..length)

@@ -187,7 +187,7 @@ fn digits_of_keys() {
     }
 }
 
-/// 65,536 bytes are listed; no index has just so many. One byte more is not, whatever it holds.
+/// 65,536 bytes are listed; no index has just that length. One byte more is not, whatever it holds.
 #[test]
 fn the_limit_of_the_input() {
     let mut random = Random::of_test();

@@ -62,9 +62,10 @@ fn compare_bound(file: &[u8]) -> Result<u32, Refusal> {
     answer
 }
 
-/// The plain reading of a file that passes 1 to 5. It makes no count, so it is given one.
+/// The plain reading of a file that passes the opening checks. It makes no count, so it is given
+/// one.
 fn plain_reading(file: &[u8], key: &[u8], compared: u32) -> Lookup {
-    let index = Index::open(file).expect("the file passes 1 to 5");
+    let index = Index::open(file).expect("the file passes the opening checks");
     match index.plain_reading(key) {
         Some(found) => Lookup::Found(in_library_entry(found, compared)),
         None => Lookup::Absent { compared },
@@ -253,7 +254,7 @@ fn the_bound_is_met() {
     }
 }
 
-/// What the full check refuses the file with; it passes 1 to 5.
+/// What the full check refuses the file with; it passes the opening checks.
 #[track_caller]
 fn fails_with(file: &[u8]) -> Reason {
     let reason = reason(second::index::check(file).expect_err("this fails").number);
@@ -427,7 +428,7 @@ fn wrong_key_lengths() {
     }
 }
 
-/// 1 to 5 come one after the other, for keys of every length, and before 10.
+/// The opening checks come one after the other, for keys of every length, and before 10.
 #[test]
 fn the_order_of_refusals() {
     #[track_caller]

@@ -257,7 +257,7 @@ fn the_limit_of_entries() {
     let settings = settings(3, 4);
     let list = counted_list(settings, MOST_ENTRIES);
     let file = compare(settings, &list, settings.file_len(MOST_ENTRIES));
-    let (summary, listed) = read_back(&file.expect("so many may be written"));
+    let (summary, listed) = read_back(&file.expect("this many may be written"));
     assert_eq!(summary.entries, MOST_ENTRIES);
     assert!(listed == list, "another list comes back");
 }

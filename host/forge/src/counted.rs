@@ -21,7 +21,7 @@ pub fn key(number: u32) -> String {
     format!("{:032x}", u128::from(number) << 64 | 0xabc)
 }
 
-/// A list of so many entries: sizes count by 3 from 7, offsets by 5 from the given one.
+/// A list of this number of entries: sizes count by 3 from 7, offsets by 5 from the given one.
 pub fn list(settings: Settings, entries: u32, first_offset: u64) -> Vec<u8> {
     let mut list = Vec::new();
     for number in 0..entries {

@@ -134,8 +134,8 @@ pub fn damage_whole(file: &mut Vec<u8>, random: &mut Random) {
     }
 }
 
-/// How long an output may be where so many bytes are to be written: as long, too short, longer, or
-/// any below.
+/// How long an output may be where this number of bytes is to be written: as long, too short,
+/// longer, or any below.
 pub fn room(length: usize, random: &mut Random) -> usize {
     match random.within(0..=5) {
         0 => length.saturating_sub(1),

@@ -19,7 +19,8 @@ impl Random {
         }
     }
 
-    /// The numbers of a test, from the seed in DWARNIZZA_TEST_SEED or a fixed one, which is printed.
+    /// The numbers of a test, from the seed in DWARNIZZA_TEST_SEED or a fixed one, which is
+    /// printed.
     pub fn of_test() -> Self {
         let seed = match env::var("DWARNIZZA_TEST_SEED") {
             Ok(text) => text.parse().expect("DWARNIZZA_TEST_SEED is a number"),
@@ -49,7 +50,7 @@ impl Random {
         self.within(0..=most)
     }
 
-    /// True once in so many times.
+    /// True once in this number of times.
     pub fn one_in(&mut self, times: u64) -> bool {
         self.word().is_multiple_of(times)
     }
@@ -66,7 +67,7 @@ impl Random {
         }
     }
 
-    /// So many bytes.
+    /// Bytes of this length.
     pub fn bytes(&mut self, length: usize) -> Vec<u8> {
         let mut bytes = vec![0; length];
         self.fill(&mut bytes);

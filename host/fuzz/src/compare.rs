@@ -13,16 +13,16 @@ use forge::random::Random;
 pub enum Output<'a> {
     /// None.
     None,
-    /// So many bytes, which hold the pattern, anywhere.
+    /// This number of bytes, which hold the pattern, anywhere.
     Bytes(usize),
-    /// So many bytes, which hold the pattern, at a multiple of eight.
+    /// This number of bytes, which hold the pattern, at a multiple of eight.
     Aligned(usize),
     /// These bytes, at a multiple of eight.
     Holding(&'a [u8]),
 }
 
 impl Output<'_> {
-    /// Lends it from this memory, moved by so many bytes where it may stand anywhere.
+    /// Lends it from this memory, moved by `moved` bytes where it may stand anywhere.
     fn lend(self, memory: &mut Memory, moved: usize) -> Lent {
         match self {
             Self::None => memory.lend(0, moved, None),

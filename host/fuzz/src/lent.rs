@@ -63,7 +63,7 @@ impl Memory {
         }
     }
 
-    /// Lends an output of so many bytes, which holds this or the pattern. It starts so many bytes
+    /// Lends an output of this length, which holds this or the pattern. It starts `moved` bytes
     /// after a multiple of eight.
     pub fn lend(&mut self, length: usize, moved: usize, holds: Option<&[u8]>) -> Lent {
         assert!(length <= LONGEST && moved < ALIGNMENT);

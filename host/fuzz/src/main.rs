@@ -13,7 +13,7 @@ use fuzz::counts::Counts;
 use fuzz::keep::keep_inputs;
 use fuzz::run::{self, Failed, Failure};
 
-/// From so many cases on, every refusal must have been reached.
+/// From this number of cases on, every refusal must have been reached.
 const ALL_REACHED: u64 = 100_000;
 
 /// The exit status after wrong usage.

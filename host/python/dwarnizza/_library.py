@@ -119,7 +119,7 @@ def _as_it_is(value: Any, _lent: List[_Buffer]) -> Tuple[Any, ...]:
 
 
 def checked(name: str, bits: int, value: int) -> int:
-    """The number, which has so many bits. What ctypes would cut to its bits is an error here."""
+    """The number, which has at most `bits` bits. What ctypes would cut to its bits is an error here."""
     number = operator.index(value)
     if not 0 <= number < 1 << bits:
         raise ValueError(f"{name} is {number}, which is not 0 to {(1 << bits) - 1}")

@@ -51,7 +51,7 @@ class _Encoding(File):
         return EncodingEntry(spec_number, size, self._part(at, length)) if found else None
 
     def spec(self, number: int) -> bytes:
-        """The spec of a number. Refused with 38 where the file has no such spec."""
+        """The spec with this number. Refused with 38 where the file has no such spec."""
         _, words = call("encoding_spec", self._data, number)
         return self._part(*words[:2])
 

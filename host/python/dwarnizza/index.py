@@ -143,7 +143,7 @@ class _Index(File):
         return self.lookup(key).entry
 
     def entry(self, number: int) -> Optional[IndexEntry]:
-        """The entry of a number, from 0 through the whole file; none past the last."""
+        """The entry with this number, from 0 through the whole file; none past the last."""
         found, words = call("index_entry", self._data, number)
         place, length, *values = words[:7]
         return IndexEntry(self._part(place, length), *values, place) if found else None
@@ -176,7 +176,8 @@ class _Index(File):
         return self.entry(parts.entries[slot])
 
     def footer(self) -> Footer:
-        """What the footer says: the last bytes of a file are enough. Refused with 1 to 4."""
+        """What the footer says: the last bytes of a file are enough. Refused as the opening
+        checks but that of the length refuse."""
         _, words = call("index_footer", self._data)
         return Footer(summary_of(words), *words[5:7])
 
@@ -231,7 +232,7 @@ class CheckedIndex(_Index):
 
 
 class UncheckedIndex(_Index):
-    """Bytes of an index that nobody checked. Each call is refused with 1 to 5 by itself.
+    """Bytes of an index that nobody checked. Each call makes the opening checks by itself.
 
     A lookup may miss a key that stands in a damaged index: `Index.check` is for all but first
     looks.
@@ -259,7 +260,7 @@ class Index:
 
     @staticmethod
     def check(data: Data) -> CheckedIndex:
-        """Makes the full check. Refused with 1 to 5, then page by page with 6 to 9."""
+        """Makes the full check: the opening checks (1 to 5), then page by page 6 to 9."""
         return CheckedIndex(data)
 
     @staticmethod

@@ -6,7 +6,7 @@ from ._library import Data, Key, call, frozen
 
 
 def key_from_text(text: Union[str, Data], key_length: int) -> bytes:
-    """The key of so many bytes that this is the text of.
+    """The key that this is the text of, with as many bytes as the key length says.
 
     The text has two hex digits for each byte, in either case, and nothing else. A key is never cut
     or filled up. Refused with 11 where the key length is not 1 to 16, with 60 where the text has

@@ -107,7 +107,7 @@ pub fn single(content: &[u8]) -> Vec<u8> {
     without_table(&plain(content))
 }
 
-/// The envelope of chunks of so many bytes, with a chunk table.
+/// The envelope of chunks of this length, with a chunk table.
 pub fn chunked(content: &[u8], length: usize) -> Vec<u8> {
     let chunks: Vec<_> = content.chunks(length).map(plain).collect();
     with_table(&chunks)

@@ -130,7 +130,7 @@ impl<'a> Table<'a> {
     }
 }
 
-/// The next part of a file, of so many bytes; refuses with 32.
+/// The next part of a file, of this length; refuses with 32.
 fn take<'a>(rest: &mut &'a [u8], length: usize) -> Result<&'a [u8], Refusal> {
     let (part, after) = rest
         .split_at_checked(length)

@@ -69,19 +69,19 @@ impl Settings {
         PAGE / self.entry_len()
     }
 
-    /// P: how many pages hold so many entries.
+    /// P: how many pages this number of entries takes.
     pub fn pages(self, entries: usize) -> usize {
         entries.div_ceil(self.entries_per_page())
     }
 
-    /// How many bytes the file of so many entries has.
+    /// How many bytes the file with this number of entries has.
     pub fn file_len(self, entries: usize) -> usize {
         self.pages(entries) * (PAGE + self.key_len() + HASH) + FOOTER
     }
 }
 
-/// The parts of a file whose footer and length are good: it passes 1 to 5, and the rest is as it
-/// is.
+/// The parts of a file whose footer and length are good: it passes the opening checks (1 to 5), and
+/// the rest is as it is.
 #[derive(Clone, Copy, Debug)]
 pub struct Index<'a> {
     settings: Settings,
@@ -92,7 +92,7 @@ pub struct Index<'a> {
 }
 
 impl<'a> Index<'a> {
-    /// Opens a file; refuses with 1 to 5.
+    /// Opens a file; refuses as the opening checks do.
     pub fn open(file: &'a [u8]) -> Result<Self, Refusal> {
         let footer = footer(file)?;
         if file.len() != footer.file_len() {

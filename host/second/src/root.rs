@@ -130,7 +130,7 @@ impl<'a> Block<'a> {
     }
 }
 
-/// The first bytes, so many as the array has.
+/// The first bytes, as many as the array has.
 fn array<const N: usize>(bytes: &[u8]) -> [u8; N] {
     *bytes.first_chunk().expect("there are as many")
 }

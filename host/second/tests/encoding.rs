@@ -300,8 +300,8 @@ fn content_pages() {
     }
 }
 
-/// So many bytes of content entries with keys from 1: 101 with one encoding key, and at byte 909 one
-/// with the rest.
+/// A page of this length of content entries with keys from 1: 101 with one encoding key, and at
+/// byte 909 one with the rest.
 fn full_page(length: usize) -> Vec<u8> {
     let mut page = Vec::new();
     for number in 1..102 {

@@ -118,7 +118,7 @@ fn name_of(file: &OsStr) -> Option<String> {
     Some(hex(&name))
 }
 
-/// The library refused a list of so many bytes.
+/// The library refused a list of this length.
 fn refused(name: &OsStr, refusal: Refusal, settings: Settings, length: usize) -> Failure {
     let help = match refusal.reason {
         Reason::Settings => settings_help(settings),

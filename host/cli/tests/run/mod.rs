@@ -69,7 +69,7 @@ pub fn run_in_2_gb<S: AsRef<OsStr>>(folder: &Path, arguments: impl IntoIterator<
     ran(command, folder, b"")
 }
 
-/// Runs the program with a file as standard input, of which so many bytes were read before.
+/// Runs the program with a file as standard input, of which `read` bytes were read before.
 pub fn run_from_file<S: AsRef<OsStr>>(
     folder: &Path,
     file: &str,

@@ -30,7 +30,7 @@ impl Written {
     }
 }
 
-/// So many lists of up to so many rows; none, which is said, where there is no Python.
+/// `count` lists of up to `rows` rows; none, which is said, where there is no Python.
 pub fn lists(count: usize, rows: usize, seed: usize) -> Option<Vec<Written>> {
     let script = Path::new(env!("CARGO_MANIFEST_DIR")).join("tests/written/lists.py");
     let numbers = [count, rows, seed].map(|number| number.to_string());

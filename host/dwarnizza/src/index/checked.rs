@@ -145,8 +145,8 @@ impl<'a> CheckedIndex<'a> {
         }
     }
 
-    /// The entry of a number, counted from 0 through all pages; none where the index has no more
-    /// than so many.
+    /// The entry with this number, counted from 0 through all pages; none where the index has no
+    /// such entry.
     ///
     /// ```
     /// use dwarnizza::Index;

@@ -148,8 +148,8 @@ impl<'a> UncheckedIndex<'a> {
         Ok(number(bound))
     }
 
-    /// The entry of a number, counted from 0 through all pages; none where the index has no more
-    /// than so many. The time is the same for every index and number.
+    /// The entry with this number, counted from 0 through all pages; none where the index has no
+    /// such entry. The time is the same for every index and number.
     ///
     /// ```
     /// use dwarnizza::Index;

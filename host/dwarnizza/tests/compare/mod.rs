@@ -12,7 +12,7 @@ pub fn refusal_at(reason: Reason, place: usize) -> Refusal {
     Refusal::new(reason, place as u64)
 }
 
-/// The reason of a number of the second program.
+/// The reason with a number of the second program.
 pub fn reason(number: u32) -> Reason {
     Reason::from_number(number).expect("the library has this number")
 }

@@ -15,7 +15,7 @@ pub fn most(key_length: usize) -> usize {
     1 << (8 * key_length).min(16)
 }
 
-/// So many keys that rise, one after the other. They differ in their first bytes, or in their last
+/// `count` keys that rise, one after the other. They differ in their first bytes, or in their last
 /// ones alone.
 pub fn rising(random: &mut Random, key_length: usize, count: usize) -> Vec<u8> {
     let counted = key_length.min(8);

@@ -199,7 +199,7 @@ impl EncodingFile {
     }
 }
 
-/// So many specs.
+/// A table of this number of specs.
 fn spec_table(random: &mut Random, specs: u32) -> Vec<u8> {
     let mut table = Vec::new();
     for _ in 0..specs {
@@ -288,7 +288,7 @@ fn padding(random: &mut Random, key_len: usize) -> Vec<u8> {
 }
 
 /// Pages of entries with rising keys, by what stands before an entry, by the entry of a key where
-/// so many bytes of the page are left, and by what closes a page.
+/// a number of bytes of the page are left, and by what closes a page.
 fn table(
     random: &mut Random,
     key_len: usize,

@@ -280,7 +280,7 @@ pub fn neighbour_lists(settings: Settings) -> impl Iterator<Item = Vec<u8>> {
     })
 }
 
-/// A list of random entries whose keys rise: there must be so many keys.
+/// A list of random entries whose keys rise: there must be as many keys.
 pub fn random_list(random: &mut Random, settings: Settings, entries: usize) -> Vec<u8> {
     let mut list = Vec::with_capacity(entries * settings.entry_len());
     for key in rising_keys(random, settings.key_len(), entries) {
@@ -290,15 +290,15 @@ pub fn random_list(random: &mut Random, settings: Settings, entries: usize) -> V
     list
 }
 
-/// So many keys of this length: anything between all close together and spread over all keys, and
-/// now and then from zero. There must be so many.
+/// `count` keys of this length: anything between all close together and spread over all keys, and
+/// now and then from zero. There must be as many.
 pub fn rising_keys(random: &mut Random, length: usize, count: usize) -> Vec<Vec<u8>> {
     let Some(others) = (count as u128).checked_sub(1) else {
         return Vec::new();
     };
     let bits = 8 * length as u32;
     let highest = u128::MAX >> (u128::BITS - bits);
-    let room = highest.checked_sub(others).expect("there are so many keys");
+    let room = highest.checked_sub(others).expect("there are as many keys");
     let gap = (room / (others + 1)) >> random.up_to(bits as usize - 1);
     let first = match random.up_to(3) {
         0 => 0,
@@ -321,7 +321,7 @@ fn wide_up_to(random: &mut Random, most: u128) -> u128 {
     }
 }
 
-/// The key so many above this one, all around.
+/// The key `step` above this one, all around.
 pub fn beside(key: &[u8], step: i128) -> Vec<u8> {
     let mut wide = [0; 16];
     let start = wide.len() - key.len();

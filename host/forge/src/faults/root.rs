@@ -122,7 +122,7 @@ impl RootFile {
     pub fn put_fault(&mut self, random: &mut Random, block: usize, fault: Fault) {
         match fault {
             Fault::Cut => {
-                // So many records that they end past the file, or all that there could be.
+                // More records than the file holds, or all that there could be.
                 let at = self.place(block);
                 let past = (self.bytes.len() - at) as u32 / 20 + 1;
                 let count = [past, past + random.up_to(100) as u32, 1 << 31, u32::MAX];

@@ -426,7 +426,7 @@ pub static ENCODING_FIND_ENCODING: Export = Export {
     refusals: &[30..=33, 38..=39],
 };
 
-/// The spec of a number.
+/// The spec with a number.
 pub static ENCODING_SPEC: Export = Export {
     name: "dwarnizza_encoding_spec",
     inputs: &["encoding"],

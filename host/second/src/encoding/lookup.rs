@@ -1,4 +1,4 @@
-//! The lookups by content key and by encoding key, the plain reading, and the spec of a number.
+//! The lookups by content key and by encoding key, the plain reading, and the spec with a number.
 
 use super::Encoding;
 use super::entry::{ContentEntry, EncodingEntry, OverPageEnd};

@@ -21,7 +21,7 @@ pub struct Entry<'a> {
     pub slot: usize,
 }
 
-/// The entry of this number, of all that stand on the pages; refuses with 1 to 5.
+/// The entry with this number, of all that stand on the pages; refuses as the opening checks do.
 pub fn entry(file: &[u8], number: u64) -> Result<Option<Entry<'_>>, Refusal> {
     let index = Index::open(file)?;
     let settings = index.settings;

@@ -25,7 +25,8 @@ pub struct Footer {
     pub entries: usize,
 }
 
-/// What the footer of a file says, whatever the file's length; refuses with 1 to 4.
+/// What the footer of a file says, whatever the file's length; refuses as the
+/// opening checks but that of the length do.
 pub fn footer(file: &[u8]) -> Result<Footer, Refusal> {
     let footer = file.last_chunk().ok_or(refusal::INDEX_TOO_SHORT)?;
     let footer = Footer::read(footer, ARCHIVE_WIDTHS)?;

@@ -26,7 +26,7 @@ pub struct Lookup {
     pub compared: u32,
 }
 
-/// Looks a key up by the halving rule; refuses with 1 to 5, then 10.
+/// Looks a key up by the halving rule; refuses as the opening checks do, then with 10.
 pub fn lookup(file: &[u8], key: &[u8]) -> Result<Lookup, Refusal> {
     let index = Index::open(file)?;
     if key.len() != index.settings.key_len() {
@@ -37,7 +37,7 @@ pub fn lookup(file: &[u8], key: &[u8]) -> Result<Lookup, Refusal> {
     Ok(Lookup { found, compared })
 }
 
-/// The most comparisons that a lookup makes; refuses with 1 to 5.
+/// The most comparisons that a lookup makes; refuses as the opening checks do.
 pub fn bound(file: &[u8]) -> Result<u32, Refusal> {
     let index = Index::open(file)?;
     let full = index.settings.entries_per_page();
@@ -95,7 +95,8 @@ impl Index<'_> {
     }
 }
 
-/// The halving rule over so many keys: the first that is not below, or their number where all are.
+/// The halving rule over this number of keys: the first that is not below, or their number where
+/// all are.
 fn first_not_below(keys: usize, mut is_below: impl FnMut(usize) -> bool) -> usize {
     let (mut start, mut left) = (0, keys);
     while left > 0 {

@@ -18,8 +18,8 @@ pub struct PageParts {
     pub entries: Range<usize>,
 }
 
-/// The parts of this page; refuses with 1 to 5. What stands after the pages is counted from the
-/// file's end.
+/// The parts of this page; refuses as the opening checks do. What stands after the pages is counted
+/// from the file's end.
 pub fn page(file: &[u8], page: u64) -> Result<Option<PageParts>, Refusal> {
     let index = Index::open(file)?;
     let Ok(page) = usize::try_from(page) else {
@@ -42,7 +42,7 @@ pub fn page(file: &[u8], page: u64) -> Result<Option<PageParts>, Refusal> {
     }))
 }
 
-/// So many bytes, up to this end.
+/// The bytes of this length up to this end.
 fn before(end: usize, length: usize) -> Range<usize> {
     end - length..end
 }

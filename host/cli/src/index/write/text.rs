@@ -14,11 +14,11 @@ use crate::key_text::key;
 use crate::name::{shown, shown_bytes};
 use crate::status::Failure;
 
-/// A list is judged when it has so many bytes, and each time it has doubled, so that one that is
-/// refused is not read to its end.
+/// A list is judged when it has this number of bytes, and each time it has doubled, so that one
+/// that is refused is not read to its end.
 const FIRST_JUDGED: usize = 1 << 20;
 
-/// The longest line that is read: no line of a list has so many characters.
+/// The longest line that is read: no line of a list has as many characters.
 const MOST_OF_A_LINE: u64 = 1000;
 
 /// A list of text, line by line.
