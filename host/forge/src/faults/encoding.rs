@@ -109,6 +109,12 @@ impl EncodingFile {
         self.sizes(kind).pages as usize
     }
 
+    /// The pages of both kinds, by kind and number.
+    pub fn all_pages(&self) -> Vec<(Kind, usize)> {
+        let pages = |kind| (0..self.pages(kind)).map(move |page| (kind, page));
+        BOTH.into_iter().flat_map(pages).collect()
+    }
+
     /// Where the specs stand.
     pub fn spec_table(&self) -> Range<usize> {
         HEADER..HEADER + self.header.spec_size as usize
@@ -184,10 +190,8 @@ impl EncodingFile {
 
     /// Stores the hashes of all pages.
     pub fn fix_hashes(&mut self) {
-        for kind in BOTH {
-            for page in 0..self.pages(kind) {
-                self.fix_hash(kind, page);
-            }
+        for (kind, page) in self.all_pages() {
+            self.fix_hash(kind, page);
         }
     }
 

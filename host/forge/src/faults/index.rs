@@ -65,10 +65,8 @@ impl IndexFile {
         for (number, entry) in list.chunks(settings.entry_len()).enumerate() {
             file.entry(number).copy_from_slice(entry);
         }
-        for page in 0..file.pages() {
-            file.fix_last_key(page);
-            file.fix_page_hash(page);
-        }
+        file.fix_last_keys();
+        file.fix_page_hashes();
         let Settings {
             version,
             offset_width,
@@ -170,6 +168,20 @@ impl IndexFile {
         self.page_hash(page).copy_from_slice(&hash);
     }
 
+    /// Stores the last key of each page.
+    pub fn fix_last_keys(&mut self) {
+        for page in 0..self.pages() {
+            self.fix_last_key(page);
+        }
+    }
+
+    /// Stores the hash of each page.
+    pub fn fix_page_hashes(&mut self) {
+        for page in 0..self.pages() {
+            self.fix_page_hash(page);
+        }
+    }
+
     /// Stores the hash of the last keys and page hashes.
     pub fn fix_contents_hash(&mut self) {
         let hash = first_8(&self.bytes[self.pages() * PAGE..self.bytes.len() - FOOTER]);
@@ -186,7 +198,14 @@ impl IndexFile {
 
     /// Puts faults into a good file, each so that it is met: all that is judged before it is right.
     pub fn put_faults(&mut self, random: &mut Random, faults: &[Fault]) {
-        // From the front, since each key goes by the one before.
+        self.put_out_of_order(random, faults);
+        self.put_padding(random, faults);
+        self.fix_page_hashes();
+        self.put_after_pages(random, faults);
+    }
+
+    /// Puts 8, from the front, since each key goes by the one before.
+    fn put_out_of_order(&mut self, random: &mut Random, faults: &[Fault]) {
         for number in 0..self.entries {
             if faults.contains(&Fault::Order(number)) {
                 let before = self.key(number - 1).to_vec();
@@ -197,14 +216,19 @@ impl IndexFile {
                 self.fix_last_key(self.page_of(number));
             }
         }
+    }
+
+    /// Puts 7.
+    fn put_padding(&mut self, random: &mut Random, faults: &[Fault]) {
         for &fault in faults {
             if let Fault::Padding(page) = fault {
                 flip(random, self.padding(page));
             }
         }
-        for page in 0..self.pages() {
-            self.fix_page_hash(page);
-        }
+    }
+
+    /// Puts 6 and 9, which are faults of what is stored after the pages.
+    fn put_after_pages(&mut self, random: &mut Random, faults: &[Fault]) {
         for &fault in faults {
             match fault {
                 Fault::PageHash(page) => flip(random, self.page_hash(page)),

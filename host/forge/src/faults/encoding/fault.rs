@@ -59,11 +59,9 @@ impl EncodingFile {
     /// All faults that the file can have.
     pub fn faults(&self) -> Vec<Fault> {
         let mut faults = vec![Fault::Magic, Fault::Field, Fault::Cut, Fault::OpenSpecs];
-        for kind in BOTH {
-            for page in 0..self.pages(kind) {
-                let of_page = self.page_faults(kind, page);
-                faults.extend(of_page.map(|fault| Fault::Page(kind, page, fault)));
-            }
+        for (kind, page) in self.all_pages() {
+            let of_page = self.page_faults(kind, page);
+            faults.extend(of_page.map(|fault| Fault::Page(kind, page, fault)));
         }
         faults
     }
@@ -88,34 +86,43 @@ impl EncodingFile {
     /// Puts faults into a good file, each so that it is met where none of those before it is there.
     pub fn put_faults(&mut self, random: &mut Random, faults: &[Fault]) {
         let mut faults = faults.to_vec();
-        // From the front, since each key goes by the one before.
         faults.sort();
-        for &fault in &faults {
+        self.put_entry_faults(random, &faults);
+        self.fix_hashes();
+        // From the back, since the file may be cut.
+        for &fault in faults.iter().rev() {
+            self.put_outside_entries(random, fault);
+        }
+    }
+
+    /// Puts the faults of entries, from the front, since each key goes by the one before.
+    fn put_entry_faults(&mut self, random: &mut Random, faults: &[Fault]) {
+        for &fault in faults {
             if let Fault::Page(kind, page, fault) = fault {
                 self.put_entry_fault(random, kind, page, fault);
             }
         }
-        self.fix_hashes();
-        // From the back, since the file may be cut.
-        for &fault in faults.iter().rev() {
-            match fault {
-                Fault::Magic => flip(random, &mut self.bytes[..2]),
-                Fault::Field => self.put_field(random),
-                Fault::Cut => self.cut(random),
-                Fault::OpenSpecs => {
-                    let last = self.spec_table().end - 1;
-                    self.bytes[last] = 1 + random.up_to(254) as u8;
-                }
-                Fault::Page(kind, page, PageFault::Hash) => {
-                    let hash = self.hash(kind, page);
-                    flip(random, &mut self.bytes[hash]);
-                }
-                Fault::Page(kind, page, PageFault::FirstKey) => {
-                    let first_key = self.first_key(kind, page);
-                    flip(random, &mut self.bytes[first_key]);
-                }
-                Fault::Page(..) => (),
+    }
+
+    /// Puts a fault of what is not an entry.
+    fn put_outside_entries(&mut self, random: &mut Random, fault: Fault) {
+        match fault {
+            Fault::Magic => flip(random, &mut self.bytes[..2]),
+            Fault::Field => self.put_field(random),
+            Fault::Cut => self.cut(random),
+            Fault::OpenSpecs => {
+                let last = self.spec_table().end - 1;
+                self.bytes[last] = 1 + random.up_to(254) as u8;
             }
+            Fault::Page(kind, page, PageFault::Hash) => {
+                let hash = self.hash(kind, page);
+                flip(random, &mut self.bytes[hash]);
+            }
+            Fault::Page(kind, page, PageFault::FirstKey) => {
+                let first_key = self.first_key(kind, page);
+                flip(random, &mut self.bytes[first_key]);
+            }
+            Fault::Page(..) => (),
         }
     }
 
