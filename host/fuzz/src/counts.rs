@@ -1,12 +1,11 @@
 //! How often each export was called, and what was said.
 
+use std::array;
+use std::collections::BTreeMap;
 use std::fmt;
 use std::ptr;
 
 use crate::export::{ABSENT, ALL, ANSWERED, Export, Said};
-
-/// The highest number of refusal.
-const HIGHEST: usize = 161;
 
 /// How many numbers stand in a line of the table of refusals.
 const NUMBERS_IN_LINE: usize = 4;
@@ -17,30 +16,25 @@ pub struct Counts {
     of: [OfExport; ALL.len()],
 }
 
-#[derive(Clone, Copy, Debug, PartialEq, Eq)]
+#[derive(Clone, Debug, Default, PartialEq, Eq)]
 struct OfExport {
     answered: u64,
     absent: u64,
-    refused: [u64; HIGHEST + 1],
+    /// By number.
+    refused: BTreeMap<u32, u64>,
 }
 
 impl OfExport {
-    const NONE: Self = Self {
-        answered: 0,
-        absent: 0,
-        refused: [0; HIGHEST + 1],
-    };
-
     fn add(&mut self, other: &Self) {
         self.answered += other.answered;
         self.absent += other.absent;
-        for (count, other) in self.refused.iter_mut().zip(other.refused) {
-            *count += other;
+        for (number, count) in &other.refused {
+            *self.refused.entry(*number).or_default() += count;
         }
     }
 
     fn all_refused(&self) -> u64 {
-        self.refused.iter().sum()
+        self.refused.values().sum()
     }
 
     fn calls(&self) -> u64 {
@@ -56,7 +50,7 @@ impl Counts {
         match said.result {
             ANSWERED => counts.answered += 1,
             ABSENT => counts.absent += 1,
-            _ => counts.refused[said.words[0] as usize] += 1,
+            _ => *counts.refused.entry(said.words[0] as u32).or_default() += 1,
         }
     }
 
@@ -76,17 +70,19 @@ impl Counts {
                 missing.push((export.name, 0));
             }
             let numbers = export.refusals.iter().cloned().flatten();
-            let missed = numbers.filter(|&number| counts.refused[number as usize] == 0);
+            let missed = numbers.filter(|number| !counts.refused.contains_key(number));
             missing.extend(missed.map(|number| (export.name, number)));
         }
         missing
     }
 
     /// How often each number of refusal was given, by all exports together.
-    fn by_number(&self) -> Vec<(usize, u64)> {
-        let count = |number: usize| self.of.iter().map(|counts| counts.refused[number]).sum();
-        let counts = (0..=HIGHEST).map(|number| (number, count(number)));
-        counts.filter(|&(_, count)| count > 0).collect()
+    fn by_number(&self) -> Vec<(u32, u64)> {
+        let mut all = OfExport::default();
+        for counts in &self.of {
+            all.add(counts);
+        }
+        all.refused.into_iter().collect()
     }
 
     /// A line for each export.
@@ -118,7 +114,7 @@ impl Counts {
 impl Default for Counts {
     fn default() -> Self {
         Self {
-            of: [OfExport::NONE; ALL.len()],
+            of: array::from_fn(|_| OfExport::default()),
         }
     }
 }

@@ -1,5 +1,7 @@
 //! Every export of the header.
 
+use std::ops::RangeInclusive;
+
 use dwarnizza_sys as sys;
 use second::chain::{Build, Link, Refused, Resolved};
 use second::file_number::{Fault, NotFileNumber, file_number};
@@ -9,6 +11,10 @@ use second::{chain, encoding, envelope, index, key, md5, root, worklist};
 use super::library::{Function, State, bytes_16};
 use super::second_program::{Said, lookup, part, place_in_archive, settings};
 use super::{Export, Given};
+
+/// The refusals of the opening checks of an index, and of its pages.
+const OPENING: RangeInclusive<u32> = 1..=5;
+const PAGES: RangeInclusive<u32> = 6..=9;
 
 /// All of them.
 pub static ALL: [&Export; 33] = [
@@ -126,7 +132,7 @@ pub static INDEX_CHECK: Export = Export {
     numbers: &[],
     library: Function::File(sys::dwarnizza_index_check),
     second: |given, _| Said::of(index::check(given.bytes[0]), settings),
-    refusals: &[1..=9],
+    refusals: &[OPENING, PAGES],
 };
 
 /// What a footer says.
@@ -136,7 +142,7 @@ pub static INDEX_SETTINGS: Export = Export {
     numbers: &[],
     library: Function::File(sys::dwarnizza_index_settings),
     second: |given, _| Said::of(index::Index::open(given.bytes[0]), settings),
-    refusals: &[1..=5],
+    refusals: &[OPENING],
 };
 
 /// An entry by its number.
@@ -154,7 +160,7 @@ pub static INDEX_ENTRY: Export = Export {
             [place, key_length, size, archive, entry.offset, page, slot]
         })
     },
-    refusals: &[1..=5],
+    refusals: &[OPENING],
 };
 
 /// What a footer says, whatever the length.
@@ -205,7 +211,7 @@ pub static INDEX_PAGE: Export = Export {
             std::array::from_fn::<u64, 8, _>(|word| words[word / 2][word % 2])
         })
     },
-    refusals: &[1..=5],
+    refusals: &[OPENING],
 };
 
 /// The list of an index.
@@ -215,7 +221,7 @@ pub static INDEX_LIST: Export = Export {
     numbers: &[],
     library: Function::FileToOutput(sys::dwarnizza_index_list),
     second: |given, output| Said::of_length(index::list(given.bytes[0], output)),
-    refusals: &[1..=9, 13..=13],
+    refusals: &[OPENING, PAGES, 13..=13],
 };
 
 /// The index of a list.
@@ -313,7 +319,7 @@ pub static INDEX_LISTING: Export = Export {
             [text.len() as u64]
         })
     },
-    refusals: &[1..=9, 70..=70],
+    refusals: &[OPENING, PAGES, 70..=70],
 };
 
 /// The lookup of a key.
@@ -326,7 +332,7 @@ pub static INDEX_LOOKUP: Export = Export {
         Ok(found) => lookup(found),
         Err(refusal) => Said::refused(refusal, 0),
     },
-    refusals: &[1..=5, 10..=10],
+    refusals: &[OPENING, 10..=10],
 };
 
 /// The most comparisons of a lookup.
@@ -336,7 +342,7 @@ pub static INDEX_BOUND: Export = Export {
     numbers: &[],
     library: Function::File(sys::dwarnizza_index_bound),
     second: |given, _| Said::of(index::bound(given.bytes[0]), |bound| [bound.into()]),
-    refusals: &[1..=5],
+    refusals: &[OPENING],
 };
 
 /// The content of an envelope.
@@ -543,7 +549,7 @@ pub static RESOLVE: Export = Export {
         };
         resolved(chain::resolve(build, id, locale, unwanted))
     },
-    refusals: &[1..=5, 10..=10, 30..=33, 35..=35, 39..=44],
+    refusals: &[OPENING, 10..=10, 30..=33, 35..=35, 39..=44],
 };
 
 /// The key of a text.
