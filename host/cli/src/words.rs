@@ -72,7 +72,7 @@ pub fn index(name: &OsStr, refused: Refusal, bytes: &[u8]) -> Failure {
             Some(place) => format!("{place}: fetch the file again"),
             None => String::new(),
         },
-        // These are not refusals of an index.
+        // These name no part of an index.
         Subject::Call
         | Subject::Envelope
         | Subject::EncodingHeader

@@ -128,7 +128,7 @@ pub enum Subject {
     Envelope,
     /// The 22 bytes that an encoding file begins with.
     EncodingHeader,
-    /// What follows them.
+    /// The rest of an encoding file: its specs and pages.
     Encoding,
     /// A root file.
     Root,
