@@ -1,18 +1,22 @@
 -- How the chain's answer crosses to C: rules S2, S3 and S5.
-use mathlib.Core.List.{List, _∷_, _++_}
+use mathlib.Core.List.{List, [], _∷_}
 use Prim.Native.Nat.{ℕ}
-use lib.ListN.{take, replicate}
+use Rattle.refusal.specs.Outcome.{Outcome, answered, absent, refusal}
 use Rattle.chain.specs.Chain.{Told, found, absentAt, refusedAt}
+use Rattle.crossing.specs.Crossing.{CrossesBeside}
 
--- 0 answered, 1 absent, 2 refused (rule S2).
-unfoldable pub chainResult : Told → ℕ
-chainResult (found values) = 0
-chainResult (absentAt link compared) = 1
-chainResult (refusedAt link number place) = 2
+-- The index lookup's values; the link of an absent answer in the third word and the comparisons in the fifth; or a refusal (rule
+-- S5).
+unfoldable pub chainOutcome : Told → Outcome
+chainOutcome (found values) = answered values
+chainOutcome (absentAt link compared) = absent (0 ∷ 0 ∷ link ∷ 0 ∷ compared ∷ [])
+chainOutcome (refusedAt link number place) = refusal number place
 
--- The index lookup's values; the link of an absent answer in the third word and the comparisons in the fifth; a refusal's number,
--- place and link. The other words are 0 (rules S3, S5).
-unfoldable pub chainWords : Told → List ℕ
-chainWords (found values) = take 8 (values ++ replicate 8 0)
-chainWords (absentAt link compared) = 0 ∷ 0 ∷ link ∷ 0 ∷ compared ∷ replicate 3 0
-chainWords (refusedAt link number place) = number ∷ place ∷ link ∷ replicate 5 0
+-- The link that stands beside a refusal (rule S3).
+unfoldable pub refusingLink : Told → ℕ
+refusingLink (found values) = 0
+refusingLink (absentAt link compared) = 0
+refusingLink (refusedAt link number place) = link
+
+abbrev pub ChainCrosses : Told → ℕ → List ℕ → Type 0
+ChainCrosses told = CrossesBeside (refusingLink told) (chainOutcome told)

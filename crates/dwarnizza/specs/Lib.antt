@@ -1,4 +1,3 @@
-pub mod Answer
 pub mod Envelopes
 pub mod FileNumbers
 pub mod Indexes

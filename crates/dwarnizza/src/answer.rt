@@ -1,40 +1,12 @@
-// How an answer is laid out.
+// The words of values that several answers tell.
 use index_layout::Layout;
 use lookup::Entry;
-use refusal::Refusal;
-use refusal::Verdict;
 ghost use mathlib.Core.Path.{_≡_};
 ghost use mathlib.Core.List.{_∷_};
 ghost use lib.ListN.{replicate};
-ghost use Rattle.refusal.specs.Check.{checkOf};
-ghost use Rattle.refusal.specs.Outcome.{answered, refusal};
+ghost use Rattle.refusal.specs.Outcome.{answered};
 ghost use Rattle.index_open.specs.Open.{layoutValues};
-ghost use Rattle.dwarnizza.specs.Answer.{result, answerWords, verdictOutcome};
-
-// Lays out a refusal.
-pub(crate) fn refused(r: Refusal, answer: &mut [u64; 8]) -> u32
-    ensures { λ n. ⌜ n ≡ result (refusal (r .number) (r .place)) ⌝ }
-    ensures { λ _. ⌜ now (answer .exit) ≡ answerWords (refusal (r .number) (r .place)) ⌝ }
-{
-    let number = r.number as u64;
-    let place = r.place as u64;
-    *answer = [number, place, 0, 0, 0, 0, 0, 0];
-    2
-}
-
-// Lays out the answer of a check that has no values to tell.
-pub(crate) fn tell(verdict: Verdict, answer: &mut [u64; 8]) -> u32
-    ensures { λ r. ⌜ r ≡ result (verdictOutcome (checkOf verdict)) ⌝ }
-    ensures { λ _. ⌜ now (answer .exit) ≡ answerWords (verdictOutcome (checkOf verdict)) ⌝ }
-{
-    match verdict {
-        Verdict::Passed => {
-            *answer = [0u64; 8];
-            0
-        }
-        Verdict::Refused(r) => refused(r, answer),
-    }
-}
+ghost use Rattle.crossing.specs.Crossing.{answerWords};
 
 // The words of an index entry that was found.
 pub(crate) fn entry_words(e: Entry) -> [u64; 8]
@@ -52,7 +24,7 @@ pub(crate) fn entry_words(e: Entry) -> [u64; 8]
 
 // The words of a layout.
 pub(crate) fn layout_words(l: Layout) -> [u64; 8]
-    ensures { λ r. ⌜ r ≡ answerWords (answered (layoutValues l)) ⌝ }
+    ensures { λ r. ⌜ r ≡ answerWords 0 (answered (layoutValues l)) ⌝ }
 {
     let version = l.version as u64;
     let offset_width = l.offset_width as u64;

@@ -1,21 +1,20 @@
 // Encoding files.
-use crate::answer::refused;
-use crate::answer::tell;
+use crossing::refused;
+use crossing::tell_verdict;
 use encoding_lookup::ContentFound;
 use encoding_lookup::EncodingFound;
 use encoding_lookup::SpecFound;
 ghost use mathlib.Core.Path.{_≡_};
 ghost use Rattle.encoding.specs.Check.{fullCheck};
 ghost use Rattle.encoding_lookup.specs.Lookup.{contentLookup, encodingLookup, specLookup};
-ghost use Rattle.dwarnizza.specs.Answer.{result, answerWords, verdictOutcome};
+ghost use Rattle.crossing.specs.Crossing.{Crosses, verdictOutcome};
 
 // The full check of an encoding file.
 #[no_mangle]
 pub extern "C" fn dwarnizza_encoding_check(file: &[u8], answer: &mut [u64; 8]) -> u32
-    ensures { λ r. ⌜ r ≡ result (verdictOutcome (fullCheck (now (file .entry)))) ⌝ }
-    ensures { λ _. ⌜ now (answer .exit) ≡ answerWords (verdictOutcome (fullCheck (now (file .entry)))) ⌝ }
+    ensures { λ r. ⌜ Crosses (verdictOutcome (fullCheck (now (file .entry)))) r (now (answer .exit)) ⌝ }
 {
-    tell(encoding::check(file), answer)
+    tell_verdict(encoding::check(file), answer)
 }
 
 // The lookup of a content key: decoded size, number of encoding keys, place and length of their run.
@@ -25,8 +24,7 @@ pub extern "C" fn dwarnizza_encoding_find_content(
     key: &[u8],
     answer: &mut [u64; 8],
 ) -> u32
-    ensures { λ r. ⌜ r ≡ result (contentLookup (now (file .entry)) (now (key .entry))) ⌝ }
-    ensures { λ _. ⌜ now (answer .exit) ≡ answerWords (contentLookup (now (file .entry)) (now (key .entry))) ⌝ }
+    ensures { λ r. ⌜ Crosses (contentLookup (now (file .entry)) (now (key .entry))) r (now (answer .exit)) ⌝ }
 {
     match encoding_lookup::find_content(file, key) {
         ContentFound::Refused(r) => refused(r, answer),
@@ -52,8 +50,7 @@ pub extern "C" fn dwarnizza_encoding_find_encoding(
     key: &[u8],
     answer: &mut [u64; 8],
 ) -> u32
-    ensures { λ r. ⌜ r ≡ result (encodingLookup (now (file .entry)) (now (key .entry))) ⌝ }
-    ensures { λ _. ⌜ now (answer .exit) ≡ answerWords (encodingLookup (now (file .entry)) (now (key .entry))) ⌝ }
+    ensures { λ r. ⌜ Crosses (encodingLookup (now (file .entry)) (now (key .entry))) r (now (answer .exit)) ⌝ }
 {
     match encoding_lookup::find_encoding(file, key) {
         EncodingFound::Refused(r) => refused(r, answer),
@@ -75,8 +72,7 @@ pub extern "C" fn dwarnizza_encoding_find_encoding(
 // A spec by its number: its place and length.
 #[no_mangle]
 pub extern "C" fn dwarnizza_encoding_spec(file: &[u8], number: u32, answer: &mut [u64; 8]) -> u32
-    ensures { λ r. ⌜ r ≡ result (specLookup (now (file .entry)) number) ⌝ }
-    ensures { λ _. ⌜ now (answer .exit) ≡ answerWords (specLookup (now (file .entry)) number) ⌝ }
+    ensures { λ r. ⌜ Crosses (specLookup (now (file .entry)) number) r (now (answer .exit)) ⌝ }
 {
     match encoding_lookup::find_spec(file, number) {
         SpecFound::Refused(r) => refused(r, answer),

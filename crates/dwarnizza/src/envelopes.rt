@@ -1,14 +1,13 @@
 // BLTE envelopes.
-use crate::answer::refused;
-use crate::answer::tell;
-use envelope::Content;
+use crossing::tell_bytes;
+use crossing::tell_verdict;
 use refusal::Verdict;
 ghost use mathlib.Core.Path.{_≡_};
 ghost use lib.ListN.{length};
 ghost use Rattle.refusal.specs.Output.{filled};
 ghost use Rattle.envelope.specs.Envelope as envelope;
 ghost use Rattle.dwarnizza.specs.Envelopes.{keyAfter};
-ghost use Rattle.dwarnizza.specs.Answer.{result, answerWords, verdictOutcome};
+ghost use Rattle.crossing.specs.Crossing.{Crosses, verdictOutcome};
 
 // The content of an envelope: the bytes written.
 #[no_mangle]
@@ -18,32 +17,18 @@ pub extern "C" fn dwarnizza_envelope_open(
     output: &mut [u8],
     answer: &mut [u64; 8],
 ) -> u32
-    ensures { λ r. ⌜ r ≡ result (envelope.openOutcome (now (file .entry)) (now (key .entry)) (length (now (output .entry)))) ⌝ }
+    ensures { λ r. ⌜ Crosses (envelope.openOutcome (now (file .entry)) (now (key .entry)) (length (now (output .entry)))) r (now (answer .exit)) ⌝ }
     ensures { λ _. ⌜ now (output .exit) ≡ filled (envelope.openCheck (now (file .entry)) (now (key .entry)) (length (now (output .entry)))) (envelope.content (now (file .entry))) (now (output .entry)) ⌝ }
-    ensures { λ _. ⌜ now (answer .exit) ≡ answerWords (envelope.openOutcome (now (file .entry)) (now (key .entry)) (length (now (output .entry)))) ⌝ }
 {
-    match envelope::open(file, key, output) {
-        Content::Refused(r) => refused(r, answer),
-        Content::Bytes(bytes) => {
-            *answer = [bytes as u64, 0, 0, 0, 0, 0, 0, 0];
-            0
-        }
-    }
+    tell_bytes(envelope::open(file, key, output), answer)
 }
 
 // The length of an envelope's content.
 #[no_mangle]
 pub extern "C" fn dwarnizza_envelope_length(file: &[u8], key: &[u8], answer: &mut [u64; 8]) -> u32
-    ensures { λ r. ⌜ r ≡ result (envelope.lengthOutcome (now (file .entry)) (now (key .entry))) ⌝ }
-    ensures { λ _. ⌜ now (answer .exit) ≡ answerWords (envelope.lengthOutcome (now (file .entry)) (now (key .entry))) ⌝ }
+    ensures { λ r. ⌜ Crosses (envelope.lengthOutcome (now (file .entry)) (now (key .entry))) r (now (answer .exit)) ⌝ }
 {
-    match envelope::content_length(file, key) {
-        Content::Refused(r) => refused(r, answer),
-        Content::Bytes(bytes) => {
-            *answer = [bytes as u64, 0, 0, 0, 0, 0, 0, 0];
-            0
-        }
-    }
+    tell_bytes(envelope::content_length(file, key), answer)
 }
 
 // The key of an envelope. A refusal leaves the key's bytes.
@@ -53,16 +38,15 @@ pub extern "C" fn dwarnizza_envelope_key(
     key: &mut [u8; 16],
     answer: &mut [u64; 8],
 ) -> u32
-    ensures { λ r. ⌜ r ≡ result (verdictOutcome (envelope.keyOfCheck (now (file .entry)))) ⌝ }
+    ensures { λ r. ⌜ Crosses (verdictOutcome (envelope.keyOfCheck (now (file .entry)))) r (now (answer .exit)) ⌝ }
     ensures { λ _. ⌜ now (key .exit) ≡ keyAfter (envelope.keyOfCheck (now (file .entry))) (envelope.envelopeKey (now (file .entry))) (now (key .entry)) ⌝ }
-    ensures { λ _. ⌜ now (answer .exit) ≡ answerWords (verdictOutcome (envelope.keyOfCheck (now (file .entry)))) ⌝ }
 {
     let told = envelope::envelope_key(file);
     let verdict = told.verdict;
     let bytes = told.bytes;
     if let Verdict::Passed = verdict {
         *key = bytes;
-        return tell(verdict, answer);
+        return tell_verdict(verdict, answer);
     }
-    tell(verdict, answer)
+    tell_verdict(verdict, answer)
 }

@@ -1,12 +1,13 @@
 // File numbers.
 use crate::answer::entry_words;
 use chain::Resolved;
+use crossing::refused_beside;
 use file_number::Told;
 ghost use mathlib.Core.Path.{_≡_};
 ghost use Rattle.chain.specs.Chain.{resolve};
 ghost use Rattle.file_number.specs.FileNumber.{fileNumberOf};
-ghost use Rattle.dwarnizza.specs.Answer.{result, answerWords};
-ghost use Rattle.dwarnizza.specs.FileNumbers.{chainResult, chainWords};
+ghost use Rattle.crossing.specs.Crossing.{Crosses};
+ghost use Rattle.dwarnizza.specs.FileNumbers.{ChainCrosses};
 
 // Follows a file number through root, encoding file and index: page, slot, size, location and comparisons; where a link is absent,
 // the link and the comparisons; where one refuses, its number, place and link.
@@ -20,16 +21,12 @@ pub extern "C" fn dwarnizza_resolve(
     unwanted: u64,
     answer: &mut [u64; 8],
 ) -> u32
-    ensures { λ r. ⌜ r ≡ chainResult (resolve (now (root .entry)) (now (encoding .entry)) (now (index .entry)) id locale unwanted) ⌝ }
-    ensures { λ _. ⌜ now (answer .exit) ≡ chainWords (resolve (now (root .entry)) (now (encoding .entry)) (now (index .entry)) id locale unwanted) ⌝ }
+    ensures { λ r. ⌜ ChainCrosses (resolve (now (root .entry)) (now (encoding .entry)) (now (index .entry)) id locale unwanted) r (now (answer .exit)) ⌝ }
 {
     match chain::resolve(root, encoding, index, id, locale, unwanted) {
         Resolved::Refused(link, r) => {
-            let number = r.number as u64;
-            let place = r.place as u64;
-            let at = link.number() as u64;
-            *answer = [number, place, at, 0, 0, 0, 0, 0];
-            2
+            let at = link.number();
+            refused_beside(r, at, answer)
         }
         Resolved::Absent(link, n) => {
             let at = link.number() as u64;
@@ -46,8 +43,7 @@ pub extern "C" fn dwarnizza_resolve(
 // The file number that a decimal text tells; where it tells none, what is wrong and its place.
 #[no_mangle]
 pub extern "C" fn dwarnizza_file_number(text: &[u8], answer: &mut [u64; 8]) -> u32
-    ensures { λ r. ⌜ r ≡ result (fileNumberOf (now (text .entry))) ⌝ }
-    ensures { λ _. ⌜ now (answer .exit) ≡ answerWords (fileNumberOf (now (text .entry))) ⌝ }
+    ensures { λ r. ⌜ Crosses (fileNumberOf (now (text .entry))) r (now (answer .exit)) ⌝ }
 {
     match file_number::read(text) {
         Told::Number(n) => {

@@ -1,14 +1,16 @@
 // MD5.
-use crate::answer::tell;
+use crossing::tell_verdict;
 use md5::Md5;
 use md5_block::Words;
 use refusal::Verdict;
 ghost use mathlib.Core.Path.{_≡_};
 ghost use mathlib.Core.Bool.{cond};
+ghost use mathlib.Core.List.{[]};
 ghost use Prim.Native.Nat.{_+_};
 ghost use lib.ListN.{length, replicate};
+ghost use Rattle.refusal.specs.Outcome.{answered};
 ghost use Rattle.md5.specs.Message as md5;
-ghost use Rattle.dwarnizza.specs.Answer.{result, answerWords, verdictOutcome};
+ghost use Rattle.crossing.specs.Crossing.{Crosses, verdictOutcome};
 ghost use Rattle.dwarnizza.specs.Md5State.{stateOf, wordsTo, wordsAfter};
 
 fn state(words: &[u32; 4], pending: &[u8; 64], count: u64) -> Md5
@@ -30,18 +32,17 @@ fn state(words: &[u32; 4], pending: &[u8; 64], count: u64) -> Md5
 // The digest of a message. A refusal leaves the digest's bytes.
 #[no_mangle]
 pub extern "C" fn dwarnizza_md5(message: &[u8], digest: &mut [u8; 16], answer: &mut [u64; 8]) -> u32
-    ensures { λ r. ⌜ r ≡ result (verdictOutcome (md5.limited (length (now (message .entry))))) ⌝ }
+    ensures { λ r. ⌜ Crosses (verdictOutcome (md5.limited (length (now (message .entry))))) r (now (answer .exit)) ⌝ }
     ensures { λ _. ⌜ now (digest .exit) ≡ cond (md5.tooLong (length (now (message .entry)))) (now (digest .entry)) (md5.md5 (now (message .entry))) ⌝ }
-    ensures { λ _. ⌜ now (answer .exit) ≡ answerWords (verdictOutcome (md5.limited (length (now (message .entry))))) ⌝ }
 {
     let hashed = md5::digest(message);
     let verdict = hashed.verdict;
     let bytes = hashed.bytes;
     if let Verdict::Passed = verdict {
         *digest = bytes;
-        return tell(verdict, answer);
+        return tell_verdict(verdict, answer);
     }
-    tell(verdict, answer)
+    tell_verdict(verdict, answer)
 }
 
 // The state before the first part.
@@ -52,9 +53,8 @@ pub extern "C" fn dwarnizza_md5_start(
     count: &mut u64,
     answer: &mut [u64; 8],
 ) -> u32
-    ensures { λ r. ⌜ r ≡ 0 ⌝ }
+    ensures { λ r. ⌜ Crosses (answered []) r (now (answer .exit)) ⌝ }
     ensures { λ _. ⌜ (now (words .exit) ≡ wordsTo md5.initial) × (now (pending .exit) ≡ replicate 64 0) × (now (count .exit) ≡ 0) ⌝ }
-    ensures { λ _. ⌜ now (answer .exit) ≡ replicate 8 0 ⌝ }
 {
     let fresh = Md5::new();
     let w = fresh.words;
@@ -75,11 +75,10 @@ pub extern "C" fn dwarnizza_md5_update(
     count: &mut u64,
     answer: &mut [u64; 8],
 ) -> u32
-    ensures { λ r. ⌜ r ≡ result (verdictOutcome (md5.limited (now (count .entry) + length (now (part .entry))))) ⌝ }
+    ensures { λ r. ⌜ Crosses (verdictOutcome (md5.limited (now (count .entry) + length (now (part .entry))))) r (now (answer .exit)) ⌝ }
     ensures { λ _. ⌜ now (words .exit) ≡ wordsAfter (now (words .entry)) (now (pending .entry)) (now (count .entry)) (now (part .entry)) ⌝ }
     ensures { λ _. ⌜ now (pending .exit) ≡ (md5.updated (stateOf (now (words .entry)) (now (pending .entry)) (now (count .entry))) (now (part .entry))) .pending ⌝ }
     ensures { λ _. ⌜ now (count .exit) ≡ (md5.updated (stateOf (now (words .entry)) (now (pending .entry)) (now (count .entry))) (now (part .entry))) .count ⌝ }
-    ensures { λ _. ⌜ now (answer .exit) ≡ answerWords (verdictOutcome (md5.limited (now (count .entry) + length (now (part .entry))))) ⌝ }
 {
     let n = *count;
     let updated = state(words, pending, n).update(part);
@@ -91,9 +90,9 @@ pub extern "C" fn dwarnizza_md5_update(
         *words = [w.a, w.b, w.c, w.d];
         *pending = bytes;
         *count = after.count;
-        return tell(verdict, answer);
+        return tell_verdict(verdict, answer);
     }
-    tell(verdict, answer)
+    tell_verdict(verdict, answer)
 }
 
 // The digest that a state ends in.
@@ -105,9 +104,8 @@ pub extern "C" fn dwarnizza_md5_finish(
     digest: &mut [u8; 16],
     answer: &mut [u64; 8],
 ) -> u32
-    ensures { λ r. ⌜ r ≡ 0 ⌝ }
+    ensures { λ r. ⌜ Crosses (answered []) r (now (answer .exit)) ⌝ }
     ensures { λ _. ⌜ now (digest .exit) ≡ md5.finished (stateOf (now (words .entry)) (now (pending .entry)) count) ⌝ }
-    ensures { λ _. ⌜ now (answer .exit) ≡ replicate 8 0 ⌝ }
 {
     *digest = state(words, pending, count).finish();
     *answer = [0u64; 8];

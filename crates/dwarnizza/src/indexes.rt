@@ -1,18 +1,15 @@
 // Archive indexes.
 use crate::answer::entry_words;
 use crate::answer::layout_words;
-use crate::answer::refused;
 use crate::narrow::narrow_settings;
-use entries::Listed;
+use crossing::refused;
+use crossing::tell_bytes;
 use index_layout::FOOTER_SIZE;
 use index_layout::HASH_LENGTH;
 use index_layout::PAGE_SIZE;
 use index_open::Checked;
-use list_entry::Put;
-use listing::ListingText;
 use lookup::Answer;
 use lookup::Bounded;
-use writer::Written;
 ghost use mathlib.Core.Path.{_≡_};
 ghost use lib.ListN.{length};
 ghost use Rattle.refusal.specs.Output.{filled};
@@ -27,14 +24,13 @@ ghost use Rattle.index_file.specs.File.{fileOf};
 ghost use Rattle.writer.specs.Write.{layoutFor, writeCheck, writeOutcome, lengthOutcome};
 ghost use Rattle.list_entry.specs.Put.{locationOf, entryBytes, putCheck, putOutcome};
 ghost use Rattle.listing.specs.Listing.{textOf, listingCheck, listingOutcome, fitted};
-ghost use Rattle.dwarnizza.specs.Answer.{result, answerWords, testOutcome};
+ghost use Rattle.crossing.specs.Crossing.{Crosses, testOutcome};
 ghost use Rattle.dwarnizza.specs.Indexes.{settingsFrom, footerOutcome};
 
 // The full check: version, offset width, key length, entries and pages.
 #[no_mangle]
 pub extern "C" fn dwarnizza_index_check(index: &[u8], answer: &mut [u64; 8]) -> u32
-    ensures { λ r. ⌜ r ≡ result (checkOutcome (now (index .entry))) ⌝ }
-    ensures { λ _. ⌜ now (answer .exit) ≡ answerWords (checkOutcome (now (index .entry))) ⌝ }
+    ensures { λ r. ⌜ Crosses (checkOutcome (now (index .entry))) r (now (answer .exit)) ⌝ }
 {
     match index::check(index) {
         Checked::Refused(r) => refused(r, answer),
@@ -48,8 +44,7 @@ pub extern "C" fn dwarnizza_index_check(index: &[u8], answer: &mut [u64; 8]) -> 
 // What the footer says, by 1 to 5 alone: version, offset width, key length, entries and pages.
 #[no_mangle]
 pub extern "C" fn dwarnizza_index_settings(index: &[u8], answer: &mut [u64; 8]) -> u32
-    ensures { λ r. ⌜ r ≡ result (openOutcome (now (index .entry))) ⌝ }
-    ensures { λ _. ⌜ now (answer .exit) ≡ answerWords (openOutcome (now (index .entry))) ⌝ }
+    ensures { λ r. ⌜ Crosses (openOutcome (now (index .entry))) r (now (answer .exit)) ⌝ }
 {
     match index_open::open(index) {
         Checked::Refused(r) => refused(r, answer),
@@ -63,8 +58,7 @@ pub extern "C" fn dwarnizza_index_settings(index: &[u8], answer: &mut [u64; 8]) 
 // The entry of a number: place of the key, its length, size, archive number, offset, page and slot.
 #[no_mangle]
 pub extern "C" fn dwarnizza_index_entry(index: &[u8], number: u64, answer: &mut [u64; 8]) -> u32
-    ensures { λ r. ⌜ r ≡ result (entryOutcome (now (index .entry)) number) ⌝ }
-    ensures { λ _. ⌜ now (answer .exit) ≡ answerWords (entryOutcome (now (index .entry)) number) ⌝ }
+    ensures { λ r. ⌜ Crosses (entryOutcome (now (index .entry)) number) r (now (answer .exit)) ⌝ }
 {
     match index_entry::find(index, number) {
         index_entry::Answer::Refused(r) => refused(r, answer),
@@ -92,8 +86,7 @@ pub extern "C" fn dwarnizza_index_entry(index: &[u8], number: u64, answer: &mut 
 // of the footer.
 #[no_mangle]
 pub extern "C" fn dwarnizza_index_footer(index: &[u8], answer: &mut [u64; 8]) -> u32
-    ensures { λ r. ⌜ r ≡ result (footerOutcome (now (index .entry))) ⌝ }
-    ensures { λ _. ⌜ now (answer .exit) ≡ answerWords (footerOutcome (now (index .entry))) ⌝ }
+    ensures { λ r. ⌜ Crosses (footerOutcome (now (index .entry))) r (now (answer .exit)) ⌝ }
 {
     match index_open::read_footer(index) {
         Checked::Refused(r) => refused(r, answer),
@@ -109,8 +102,7 @@ pub extern "C" fn dwarnizza_index_footer(index: &[u8], answer: &mut [u64; 8]) ->
 // Whether the footer is that of an index of loose files or of patches.
 #[no_mangle]
 pub extern "C" fn dwarnizza_index_loose(index: &[u8], answer: &mut [u64; 8]) -> u32
-    ensures { λ r. ⌜ r ≡ result (testOutcome (isLoose (now (index .entry)))) ⌝ }
-    ensures { λ _. ⌜ now (answer .exit) ≡ answerWords (testOutcome (isLoose (now (index .entry)))) ⌝ }
+    ensures { λ r. ⌜ Crosses (testOutcome (isLoose (now (index .entry)))) r (now (answer .exit)) ⌝ }
 {
     *answer = [0u64; 8];
     if index_open::is_loose(index) { 0 } else { 1 }
@@ -119,8 +111,7 @@ pub extern "C" fn dwarnizza_index_loose(index: &[u8], answer: &mut [u64; 8]) -> 
 // A page: place and length of the page, of its last key and of its hash, its first entry, and how many it has.
 #[no_mangle]
 pub extern "C" fn dwarnizza_index_page(index: &[u8], page: u64, answer: &mut [u64; 8]) -> u32
-    ensures { λ r. ⌜ r ≡ result (pageOutcome (now (index .entry)) page) ⌝ }
-    ensures { λ _. ⌜ now (answer .exit) ≡ answerWords (pageOutcome (now (index .entry)) page) ⌝ }
+    ensures { λ r. ⌜ Crosses (pageOutcome (now (index .entry)) page) r (now (answer .exit)) ⌝ }
 {
     match index_page::find(index, index_page::page_of(page)) {
         index_page::Answer::Refused(r) => refused(r, answer),
@@ -159,24 +150,16 @@ pub extern "C" fn dwarnizza_index_list(
     output: &mut [u8],
     answer: &mut [u64; 8],
 ) -> u32
-    ensures { λ r. ⌜ r ≡ result (listOutcome (now (index .entry)) (length (now (output .entry)))) ⌝ }
+    ensures { λ r. ⌜ Crosses (listOutcome (now (index .entry)) (length (now (output .entry)))) r (now (answer .exit)) ⌝ }
     ensures { λ _. ⌜ now (output .exit) ≡ filled (listCheck (now (index .entry)) (length (now (output .entry)))) (listOf (now (index .entry))) (now (output .entry)) ⌝ }
-    ensures { λ _. ⌜ now (answer .exit) ≡ answerWords (listOutcome (now (index .entry)) (length (now (output .entry)))) ⌝ }
 {
-    match entries::list(index, output) {
-        Listed::Refused(r) => refused(r, answer),
-        Listed::Written(bytes) => {
-            *answer = [bytes as u64, 0, 0, 0, 0, 0, 0, 0];
-            0
-        }
-    }
+    tell_bytes(entries::list(index, output), answer)
 }
 
 // The lookup of a key: page, slot, size, location and comparisons; of an absent key, the comparisons.
 #[no_mangle]
 pub extern "C" fn dwarnizza_index_lookup(index: &[u8], key: &[u8], answer: &mut [u64; 8]) -> u32
-    ensures { λ r. ⌜ r ≡ result (lookupOf (now (index .entry)) (now (key .entry))) ⌝ }
-    ensures { λ _. ⌜ now (answer .exit) ≡ answerWords (lookupOf (now (index .entry)) (now (key .entry))) ⌝ }
+    ensures { λ r. ⌜ Crosses (lookupOf (now (index .entry)) (now (key .entry))) r (now (answer .exit)) ⌝ }
 {
     match lookup::lookup(index, key) {
         Answer::Refused(r) => refused(r, answer),
@@ -194,8 +177,7 @@ pub extern "C" fn dwarnizza_index_lookup(index: &[u8], key: &[u8], answer: &mut 
 // The most stored keys that a lookup in an index compares.
 #[no_mangle]
 pub extern "C" fn dwarnizza_index_bound(index: &[u8], answer: &mut [u64; 8]) -> u32
-    ensures { λ r. ⌜ r ≡ result (boundOf (now (index .entry))) ⌝ }
-    ensures { λ _. ⌜ now (answer .exit) ≡ answerWords (boundOf (now (index .entry))) ⌝ }
+    ensures { λ r. ⌜ Crosses (boundOf (now (index .entry))) r (now (answer .exit)) ⌝ }
 {
     match lookup::bound(index) {
         Bounded::Refused(r) => refused(r, answer),
@@ -216,18 +198,11 @@ pub extern "C" fn dwarnizza_index_write(
     output: &mut [u8],
     answer: &mut [u64; 8],
 ) -> u32
-    ensures { λ r. ⌜ r ≡ result (writeOutcome (settingsFrom version «offset_width» «key_length») (now (list .entry)) (length (now (output .entry)))) ⌝ }
+    ensures { λ r. ⌜ Crosses (writeOutcome (settingsFrom version «offset_width» «key_length») (now (list .entry)) (length (now (output .entry)))) r (now (answer .exit)) ⌝ }
     ensures { λ _. ⌜ now (output .exit) ≡ filled (writeCheck (settingsFrom version «offset_width» «key_length») (now (list .entry)) (length (now (output .entry)))) (fileOf (now (list .entry)) (layoutFor (settingsFrom version «offset_width» «key_length») (now (list .entry)))) (now (output .entry)) ⌝ }
-    ensures { λ _. ⌜ now (answer .exit) ≡ answerWords (writeOutcome (settingsFrom version «offset_width» «key_length») (now (list .entry)) (length (now (output .entry)))) ⌝ }
 {
     let settings = narrow_settings(version, offset_width, key_length);
-    match writer::write(settings, list, output) {
-        Written::Refused(r) => refused(r, answer),
-        Written::File(length) => {
-            *answer = [length as u64, 0, 0, 0, 0, 0, 0, 0];
-            0
-        }
-    }
+    tell_bytes(writer::write(settings, list, output), answer)
 }
 
 // The length of the file that a list gives.
@@ -239,17 +214,10 @@ pub extern "C" fn dwarnizza_index_written_length(
     list: &[u8],
     answer: &mut [u64; 8],
 ) -> u32
-    ensures { λ r. ⌜ r ≡ result (lengthOutcome (settingsFrom version «offset_width» «key_length») (now (list .entry))) ⌝ }
-    ensures { λ _. ⌜ now (answer .exit) ≡ answerWords (lengthOutcome (settingsFrom version «offset_width» «key_length») (now (list .entry))) ⌝ }
+    ensures { λ r. ⌜ Crosses (lengthOutcome (settingsFrom version «offset_width» «key_length») (now (list .entry))) r (now (answer .exit)) ⌝ }
 {
     let settings = narrow_settings(version, offset_width, key_length);
-    match writer::written_length(settings, list) {
-        Written::Refused(r) => refused(r, answer),
-        Written::File(length) => {
-            *answer = [length as u64, 0, 0, 0, 0, 0, 0, 0];
-            0
-        }
-    }
+    tell_bytes(writer::written_length(settings, list), answer)
 }
 
 // Puts one entry of a list: the bytes written.
@@ -265,18 +233,14 @@ pub extern "C" fn dwarnizza_list_put(
     output: &mut [u8],
     answer: &mut [u64; 8],
 ) -> u32
-    ensures { λ r. ⌜ r ≡ result (putOutcome (settingsFrom version «offset_width» «key_length») (now (key .entry)) archive offset (length (now (output .entry)))) ⌝ }
+    ensures { λ r. ⌜ Crosses (putOutcome (settingsFrom version «offset_width» «key_length») (now (key .entry)) archive offset (length (now (output .entry)))) r (now (answer .exit)) ⌝ }
     ensures { λ _. ⌜ now (output .exit) ≡ filled (putCheck (settingsFrom version «offset_width» «key_length») (now (key .entry)) archive offset (length (now (output .entry)))) (entryBytes «offset_width» (now (key .entry)) size (locationOf archive offset)) (now (output .entry)) ⌝ }
-    ensures { λ _. ⌜ now (answer .exit) ≡ answerWords (putOutcome (settingsFrom version «offset_width» «key_length») (now (key .entry)) archive offset (length (now (output .entry)))) ⌝ }
 {
     let settings = narrow_settings(version, offset_width, key_length);
-    match list_entry::put_entry(settings, key, size, archive, offset, output) {
-        Put::Refused(r) => refused(r, answer),
-        Put::Bytes(bytes) => {
-            *answer = [bytes as u64, 0, 0, 0, 0, 0, 0, 0];
-            0
-        }
-    }
+    tell_bytes(
+        list_entry::put_entry(settings, key, size, archive, offset, output),
+        answer,
+    )
 }
 
 // The listing of an index: the length of the text, which stands at the output's start where there is room for all of it.
@@ -286,15 +250,8 @@ pub extern "C" fn dwarnizza_index_listing(
     output: &mut [u8],
     answer: &mut [u64; 8],
 ) -> u32
-    ensures { λ r. ⌜ r ≡ result (listingOutcome (now (input .entry))) ⌝ }
+    ensures { λ r. ⌜ Crosses (listingOutcome (now (input .entry))) r (now (answer .exit)) ⌝ }
     ensures { λ _. ⌜ now (output .exit) ≡ fitted (listingCheck (now (input .entry))) (textOf (now (input .entry))) (now (output .entry)) ⌝ }
-    ensures { λ _. ⌜ now (answer .exit) ≡ answerWords (listingOutcome (now (input .entry))) ⌝ }
 {
-    match listing::listing(input, output) {
-        ListingText::Refused(r) => refused(r, answer),
-        ListingText::Length(length) => {
-            *answer = [length as u64, 0, 0, 0, 0, 0, 0, 0];
-            0
-        }
-    }
+    tell_bytes(listing::listing(input, output), answer)
 }

@@ -1,13 +1,13 @@
 // Keys.
-use crate::answer::refused;
-use crate::narrow::narrow;
+use crossing::narrow;
+use crossing::refused;
 use parts::copy;
 use parts::part;
 use refusal::Verdict;
 ghost use mathlib.Core.Path.{_≡_};
 ghost use Rattle.refusal.specs.Output.{filled};
 ghost use Rattle.key_text.specs.Text.{textCheck, textBytes};
-ghost use Rattle.dwarnizza.specs.Answer.{result, answerWords};
+ghost use Rattle.crossing.specs.Crossing.{Crosses};
 ghost use Rattle.dwarnizza.specs.Keys.{textOutcome};
 
 // The key of `length` bytes that a text tells, in the first bytes of `key`. A refusal leaves the key's bytes.
@@ -18,9 +18,8 @@ pub extern "C" fn dwarnizza_key_text(
     key: &mut [u8; 16],
     answer: &mut [u64; 8],
 ) -> u32
-    ensures { λ r. ⌜ r ≡ result (textOutcome (now (text .entry)) length) ⌝ }
+    ensures { λ r. ⌜ Crosses (textOutcome (now (text .entry)) length) r (now (answer .exit)) ⌝ }
     ensures { λ _. ⌜ now (key .exit) ≡ filled (textCheck (now (text .entry)) length) (textBytes (now (text .entry))) (now (key .entry)) ⌝ }
-    ensures { λ _. ⌜ now (answer .exit) ≡ answerWords (textOutcome (now (text .entry)) length) ⌝ }
 {
     let k = narrow(length);
     let read = key_text::from_text(text, k);

@@ -1,15 +1,11 @@
-// Small numbers, which C gives in 32 bits. A number that a byte does not hold becomes 255, which no setting may be.
+// Settings, whose numbers C gives in 32 bits.
+use crossing::narrow;
 use writer::Settings;
 ghost use mathlib.Core.Path.{_≡_};
 ghost use Prim.Native.Nat.{min};
 ghost use Rattle.dwarnizza.specs.Indexes.{settingsFrom};
 
-pub(crate) fn narrow(x: u32) -> u8
-    ensures { λ r. ⌜ r ≡ min x 255 ⌝ }
-{
-    if x < 255 { x as u8 } else { 255 }
-}
-
+// Each number that a byte does not hold becomes 255, which no setting may be.
 pub(crate) fn narrow_settings(version: u32, offset_width: u32, key_length: u32) -> Settings
     ensures { λ r. ⌜ r ≡ settingsFrom (min version 255) (min «offset_width» 255) (min «key_length» 255) ⌝ }
 {

@@ -1,22 +1,21 @@
 // Root files.
-use crate::answer::refused;
-use crate::answer::tell;
+use crossing::refused;
+use crossing::tell_bytes;
+use crossing::tell_verdict;
 use root::Answer;
-use root_find_many::Written;
 ghost use mathlib.Core.Path.{_≡_};
 ghost use lib.ListN.{length};
 ghost use Rattle.root.specs.Root.{rootCheck};
 ghost use Rattle.root.specs.Lookup.{lookupOf, keyOr};
 ghost use Rattle.root_find_many.specs.Many.{manyOutcome, manyOutput};
-ghost use Rattle.dwarnizza.specs.Answer.{result, answerWords, verdictOutcome};
+ghost use Rattle.crossing.specs.Crossing.{Crosses, verdictOutcome};
 
 // The check of a whole root file.
 #[no_mangle]
 pub extern "C" fn dwarnizza_root_check(file: &[u8], answer: &mut [u64; 8]) -> u32
-    ensures { λ r. ⌜ r ≡ result (verdictOutcome (rootCheck (now (file .entry)))) ⌝ }
-    ensures { λ _. ⌜ now (answer .exit) ≡ answerWords (verdictOutcome (rootCheck (now (file .entry)))) ⌝ }
+    ensures { λ r. ⌜ Crosses (verdictOutcome (rootCheck (now (file .entry)))) r (now (answer .exit)) ⌝ }
 {
-    tell(root::check(file), answer)
+    tell_verdict(root::check(file), answer)
 }
 
 // The content key of a file number: its byte offset, and its bytes. Where none is found the key's bytes stay.
@@ -29,9 +28,8 @@ pub extern "C" fn dwarnizza_root_find(
     key: &mut [u8; 16],
     answer: &mut [u64; 8],
 ) -> u32
-    ensures { λ r. ⌜ r ≡ result (lookupOf (now (file .entry)) id locale unwanted) ⌝ }
+    ensures { λ r. ⌜ Crosses (lookupOf (now (file .entry)) id locale unwanted) r (now (answer .exit)) ⌝ }
     ensures { λ _. ⌜ now (key .exit) ≡ keyOr (now (file .entry)) (now (key .entry)) (lookupOf (now (file .entry)) id locale unwanted) ⌝ }
-    ensures { λ _. ⌜ now (answer .exit) ≡ answerWords (lookupOf (now (file .entry)) id locale unwanted) ⌝ }
 {
     let found = root::lookup(file, id, locale, unwanted);
     let told = found.answer;
@@ -60,15 +58,11 @@ pub extern "C" fn dwarnizza_root_find_many(
     output: &mut [u8],
     answer: &mut [u64; 8],
 ) -> u32
-    ensures { λ r. ⌜ r ≡ result (manyOutcome (now (file .entry)) (now (ids .entry)) (length (now (output .entry)))) ⌝ }
+    ensures { λ r. ⌜ Crosses (manyOutcome (now (file .entry)) (now (ids .entry)) (length (now (output .entry)))) r (now (answer .exit)) ⌝ }
     ensures { λ _. ⌜ now (output .exit) ≡ manyOutput (now (file .entry)) (now (ids .entry)) locale unwanted (now (output .entry)) ⌝ }
-    ensures { λ _. ⌜ now (answer .exit) ≡ answerWords (manyOutcome (now (file .entry)) (now (ids .entry)) (length (now (output .entry)))) ⌝ }
 {
-    match root_find_many::find_many(file, ids, locale, unwanted, output) {
-        Written::Refused(r) => refused(r, answer),
-        Written::Bytes(bytes) => {
-            *answer = [bytes as u64, 0, 0, 0, 0, 0, 0, 0];
-            0
-        }
-    }
+    tell_bytes(
+        root_find_many::find_many(file, ids, locale, unwanted, output),
+        answer,
+    )
 }

@@ -1,15 +1,15 @@
 // Worklists: separated text.
-use crate::answer::refused;
+use crossing::refused;
+use crossing::tell_bytes;
 use worklist::FieldAnswer;
 use worklist::RowAnswer;
 use worklist::Span;
-use worklist_unquoted::Written;
 ghost use mathlib.Core.Path.{_≡_};
 ghost use lib.ListN.{length};
 ghost use Rattle.refusal.specs.Outcome.{answered};
 ghost use Rattle.worklist.specs.Rows.{rowOutcome, fieldOutcome, spanValues};
 ghost use Rattle.worklist_unquoted.specs.Unquoted.{unquotedOutput, unquotedOutcome};
-ghost use Rattle.dwarnizza.specs.Answer.{result, answerWords};
+ghost use Rattle.crossing.specs.Crossing.{Crosses, answerWords};
 
 // The row that begins at a byte of a text: where it ends, where the next begins, the number of its fields; of a malformed one 1 and
 // the place in the last two words.
@@ -20,8 +20,7 @@ pub extern "C" fn dwarnizza_worklist_row(
     separator: u32,
     answer: &mut [u64; 8],
 ) -> u32
-    ensures { λ r. ⌜ r ≡ result (rowOutcome (now (text .entry)) at separator) ⌝ }
-    ensures { λ _. ⌜ now (answer .exit) ≡ answerWords (rowOutcome (now (text .entry)) at separator) ⌝ }
+    ensures { λ r. ⌜ Crosses (rowOutcome (now (text .entry)) at separator) r (now (answer .exit)) ⌝ }
 {
     match worklist::row(text, at, separator) {
         RowAnswer::Refused(r) => refused(r, answer),
@@ -42,7 +41,7 @@ pub extern "C" fn dwarnizza_worklist_row(
 
 // The words of a field.
 fn span_words(f: Span) -> [u64; 8]
-    ensures { λ r. ⌜ r ≡ answerWords (answered (spanValues f)) ⌝ }
+    ensures { λ r. ⌜ r ≡ answerWords 0 (answered (spanValues f)) ⌝ }
 {
     let at = f.at as u64;
     let length = f.length as u64;
@@ -61,8 +60,7 @@ pub extern "C" fn dwarnizza_worklist_field(
     column: usize,
     answer: &mut [u64; 8],
 ) -> u32
-    ensures { λ r. ⌜ r ≡ result (fieldOutcome (now (text .entry)) at separator column) ⌝ }
-    ensures { λ _. ⌜ now (answer .exit) ≡ answerWords (fieldOutcome (now (text .entry)) at separator column) ⌝ }
+    ensures { λ r. ⌜ Crosses (fieldOutcome (now (text .entry)) at separator column) r (now (answer .exit)) ⌝ }
 {
     match worklist::field(text, at, separator, column) {
         FieldAnswer::Refused(r) => refused(r, answer),
@@ -84,15 +82,8 @@ pub extern "C" fn dwarnizza_worklist_unquoted(
     output: &mut [u8],
     answer: &mut [u64; 8],
 ) -> u32
-    ensures { λ r. ⌜ r ≡ result (unquotedOutcome (now (field .entry)) (length (now (output .entry)))) ⌝ }
+    ensures { λ r. ⌜ Crosses (unquotedOutcome (now (field .entry)) (length (now (output .entry)))) r (now (answer .exit)) ⌝ }
     ensures { λ _. ⌜ now (output .exit) ≡ unquotedOutput (now (field .entry)) (now (output .entry)) ⌝ }
-    ensures { λ _. ⌜ now (answer .exit) ≡ answerWords (unquotedOutcome (now (field .entry)) (length (now (output .entry)))) ⌝ }
 {
-    match worklist_unquoted::unquoted(field, output) {
-        Written::Refused(r) => refused(r, answer),
-        Written::Bytes(bytes) => {
-            *answer = [bytes as u64, 0, 0, 0, 0, 0, 0, 0];
-            0
-        }
-    }
+    tell_bytes(worklist_unquoted::unquoted(field, output), answer)
 }

@@ -7,19 +7,15 @@ use parts::copy;
 use parts::part;
 use refusal::OUTPUT_SHORT;
 use refusal::Refusal;
+use refusal::Written;
 ghost use mathlib.Core.Path.{_≡_};
 ghost use Prim.Native.Nat.{_≤_};
 ghost use lib.ListN.{length};
 ghost use Rattle.refusal.specs.Check.{silent};
+ghost use Rattle.refusal.specs.Outcome.{writtenOutcome};
 ghost use Rattle.refusal.specs.Output.{filled};
 ghost use Rattle.index_layout.specs.Entries as entries;
 ghost use Rattle.entries.specs.List as spec;
-
-// What listing answers: the bytes written, or a refusal.
-pub enum Listed {
-    Written(usize),
-    Refused(Refusal),
-}
 
 // Copies the entries of each page, one page after the other.
 fn fill(index: &[u8], l: Layout, output: &mut [u8])
@@ -40,22 +36,22 @@ fn fill(index: &[u8], l: Layout, output: &mut [u8])
 }
 
 // Writes the list of a checked index into the output.
-pub fn list(index: &[u8], output: &mut [u8]) -> Listed
-    ensures { λ r. ⌜ spec.outcome r ≡ spec.listOutcome (now (index .entry)) (length (now (output .entry))) ⌝ }
+pub fn list(index: &[u8], output: &mut [u8]) -> Written
+    ensures { λ r. ⌜ writtenOutcome r ≡ spec.listOutcome (now (index .entry)) (length (now (output .entry))) ⌝ }
     ensures { λ _. ⌜ now (output .exit) ≡ filled (spec.listCheck (now (index .entry)) (length (now (output .entry)))) (entries.listOf (now (index .entry))) (now (output .entry)) ⌝ }
 {
     match index::check(index) {
-        Checked::Refused(r) => Listed::Refused(r),
+        Checked::Refused(r) => Written::Refused(r),
         Checked::Passed(l) => {
             let bytes = l.entries as usize * l.entry_size();
             if output.len() < bytes {
-                return Listed::Refused(Refusal {
+                return Written::Refused(Refusal {
                     number: OUTPUT_SHORT,
                     place: 0,
                 });
             }
             fill(index, l, output);
-            Listed::Written(bytes)
+            Written::Bytes(bytes)
         }
     }
 }

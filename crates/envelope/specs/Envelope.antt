@@ -8,12 +8,10 @@ use Rattle.parts.specs.Part.{byteAt, partAt, sameBytes, partsFrom}
 use Rattle.md5.specs.Message.{md5, limited}
 use Rattle.refusal.specs.Check.{Check, silent, refusedIf, first, firstFrom}
 use Rattle.refusal.specs.Number.{chunk-hash, chunk-mode, decoded-size, content-output-short, envelope-key}
-use Rattle.refusal.specs.Outcome.{Outcome, answered, refusal, after}
+use Rattle.refusal.specs.Outcome.{Outcome, answered, after}
 use Rattle.refusal.specs.Output.{filled}
 use Rattle.envelope_header.specs.declared.Header.{Header}
 use Rattle.envelope_header.specs.Header.{headerOf, tabled, chunkCount, headerLength, encodedSize, decodedSize, chunkHash, chunkAt, opening, headerValues}
-use Rattle.envelope.specs.declared.Content.{Content}
-use Rattle.envelope.specs.declared.Content.the-variants.{Bytes, Refused}
 
 -- Chunk i.
 abbrev pub chunkOf : List ℕ → Header → ℕ → List ℕ
@@ -93,11 +91,6 @@ outputCheck s room = refusedIf (ltb room (length (content s))) content-output-sh
 -- The whole order: 26 last (rule B14).
 unfoldable pub openCheck : List ℕ → List ℕ → ℕ → Check
 openCheck s key room = first (contentCheck s key) (outputCheck s room)
-
--- What the declared answers give: the bytes of the content (rules B14, B15).
-unfoldable pub outcome : Content → Outcome
-outcome (Bytes n) = answered (n ∷ [])
-outcome (Refused r) = refusal (r .number) (r .place)
 
 abbrev pub lengthOutcome : List ℕ → List ℕ → Outcome
 lengthOutcome s key = after (contentCheck s key) (answered (length (content s) ∷ []))

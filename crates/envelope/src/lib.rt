@@ -10,21 +10,17 @@ use refusal::CONTENT_OUTPUT_SHORT;
 use refusal::ENVELOPE_KEY;
 use refusal::Refusal;
 use refusal::Verdict;
+use refusal::Written;
 use refusal::refuse;
 ghost use mathlib.Core.Path.{_≡_};
 ghost use lib.ListN.{length};
 ghost use Rattle.refusal.specs.Check.{checkOf, first};
+ghost use Rattle.refusal.specs.Outcome.{writtenOutcome};
 ghost use Rattle.refusal.specs.Output.{filled};
 ghost use Rattle.envelope_header.specs.Header as header;
 ghost use Rattle.envelope.specs.Envelope as spec;
 
 mod chunks;
-
-// What opening an envelope answers: the bytes of its content, or a refusal.
-pub enum Content {
-    Bytes(usize),
-    Refused(Refusal),
-}
 
 // An envelope's key by value; zeros beside a refusal.
 pub struct EnvelopeKey {
@@ -79,32 +75,32 @@ fn judge(file: &[u8], key: &[u8]) -> Opened
 }
 
 // The length of an envelope's content. All checks of opening it but the room.
-pub fn content_length(file: &[u8], key: &[u8]) -> Content
-    ensures { λ r. ⌜ spec.outcome r ≡ spec.lengthOutcome (now (file .entry)) (now (key .entry)) ⌝ }
+pub fn content_length(file: &[u8], key: &[u8]) -> Written
+    ensures { λ r. ⌜ writtenOutcome r ≡ spec.lengthOutcome (now (file .entry)) (now (key .entry)) ⌝ }
 {
     match judge(file, key) {
-        Opened::Refused(r) => Content::Refused(r),
-        Opened::Passed(h) => Content::Bytes(length_of(file, h)),
+        Opened::Refused(r) => Written::Refused(r),
+        Opened::Passed(h) => Written::Bytes(length_of(file, h)),
     }
 }
 
 // Puts the content of an envelope into the output. Nothing is written before all is judged.
-pub fn open(file: &[u8], key: &[u8], output: &mut [u8]) -> Content
-    ensures { λ r. ⌜ spec.outcome r ≡ spec.openOutcome (now (file .entry)) (now (key .entry)) (length (now (output .entry))) ⌝ }
+pub fn open(file: &[u8], key: &[u8], output: &mut [u8]) -> Written
+    ensures { λ r. ⌜ writtenOutcome r ≡ spec.openOutcome (now (file .entry)) (now (key .entry)) (length (now (output .entry))) ⌝ }
     ensures { λ _. ⌜ now (output .exit) ≡ filled (spec.openCheck (now (file .entry)) (now (key .entry)) (length (now (output .entry)))) (spec.content (now (file .entry))) (now (output .entry)) ⌝ }
 {
     match judge(file, key) {
-        Opened::Refused(r) => Content::Refused(r),
+        Opened::Refused(r) => Written::Refused(r),
         Opened::Passed(h) => {
             let length = length_of(file, h);
             if output.len() < length {
-                return Content::Refused(Refusal {
+                return Written::Refused(Refusal {
                     number: CONTENT_OUTPUT_SHORT,
                     place: 0,
                 });
             }
             fill(file, h, output);
-            Content::Bytes(length)
+            Written::Bytes(length)
         }
     }
 }

@@ -5,15 +5,13 @@ use Prim.Native.Nat.{ℕ, zero, suc, _+_, _*_, _/_, _%_, _^_}
 use lib.Dec.{leb, ltb, eqb}
 use lib.ListN.{length}
 use Rattle.refusal.specs.Check.{Check, refusedIf, first}
-use Rattle.refusal.specs.Outcome.{Outcome, answered, refusal, after}
+use Rattle.refusal.specs.Outcome.{Outcome, answered, after}
 use Rattle.refusal.specs.Number.{settings, index-key-length}
 use Rattle.refusal.specs.Output.{roomCheck}
 use Rattle.index_layout.specs.Layout.{sizeWidth}
 use Rattle.index_entry.specs.Entry.{archiveWidth}
 use Rattle.writer.specs.declared.Settings.{Settings}
 use Rattle.writer.specs.Write.{listEntrySize, settingsCheck}
-use Rattle.list_entry.specs.declared.Put.{Put}
-use Rattle.list_entry.specs.declared.Put.the-variants.{Bytes, Refused}
 
 -- A number in w bytes, highest byte first (rule G6).
 unfoldable pub bigBytes : (w n : ℕ) → List ℕ
@@ -51,11 +49,6 @@ putCheck s key archive offset room =
 -- The bytes of the entry: key, encoded size and location (rule I5).
 unfoldable pub entryBytes : (w : ℕ) → List ℕ → (size location : ℕ) → List ℕ
 entryBytes w key size location = key ++ bigBytes sizeWidth size ++ bigBytes w location
-
--- What is told: how many they are (rule I28).
-unfoldable pub outcome : Put → Outcome
-outcome (Bytes n) = answered (n ∷ [])
-outcome (Refused r) = refusal (r .number) (r .place)
 
 abbrev pub putOutcome : Settings → List ℕ → (archive offset room : ℕ) → Outcome
 putOutcome s key archive offset room = after (putCheck s key archive offset room) (answered (listEntrySize s ∷ []))

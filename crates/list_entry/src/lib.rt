@@ -5,9 +5,9 @@ use parts::copy;
 use parts::part;
 use refusal::INDEX_KEY_LENGTH;
 use refusal::OUTPUT_SHORT;
-use refusal::Refusal;
 use refusal::SETTINGS;
 use refusal::Verdict;
+use refusal::Written;
 use refusal::refuse;
 use writer::Settings;
 use writer::settings_right;
@@ -15,6 +15,7 @@ ghost use mathlib.Core.Path.{_≡_};
 ghost use Prim.Native.Nat.{_+_, _^_, _≤_};
 ghost use lib.ListN.{length};
 ghost use Rattle.refusal.specs.Check.{checkOf, silent};
+ghost use Rattle.refusal.specs.Outcome.{writtenOutcome};
 ghost use Rattle.refusal.specs.Output.{filled};
 ghost use Rattle.index_layout.specs.Layout.{leastOffsetWidth, mostOffsetWidth, sizeWidth, mostKeyLength};
 ghost use Rattle.list_entry.specs.Put as spec;
@@ -29,12 +30,6 @@ const FIVE_BYTES: u64 = 1_099_511_627_776;
 
 // The bytes of a `u64`.
 const NUMBER_BYTES: usize = 8;
-
-// What putting an entry answers: its bytes, or a refusal.
-pub enum Put {
-    Bytes(usize),
-    Refused(Refusal),
-}
 
 // The eight bytes of a number, highest first.
 fn big_bytes(n: u64) -> [u8; NUMBER_BYTES]
@@ -122,15 +117,15 @@ pub fn put_entry(
     archive: u32,
     offset: u64,
     output: &mut [u8],
-) -> Put
-    ensures { λ r. ⌜ spec.outcome r ≡ spec.putOutcome settings (now (key .entry)) archive offset (length (now (output .entry))) ⌝ }
+) -> Written
+    ensures { λ r. ⌜ writtenOutcome r ≡ spec.putOutcome settings (now (key .entry)) archive offset (length (now (output .entry))) ⌝ }
     ensures { λ _. ⌜ now (output .exit) ≡ filled (spec.putCheck settings (now (key .entry)) archive offset (length (now (output .entry)))) (spec.entryBytes (settings .«offset_width») (now (key .entry)) size (spec.locationOf archive offset)) (now (output .entry)) ⌝ }
 {
     if let Verdict::Refused(r) = judge(settings, key, archive, offset, output.len()) {
-        return Put::Refused(r);
+        return Written::Refused(r);
     }
     let width = settings.offset_width;
     let location = archive as u64 * FOUR_BYTES + offset;
     fill(width, key, size, location, output);
-    Put::Bytes(key.len() + SIZE_WIDTH as usize + width as usize)
+    Written::Bytes(key.len() + SIZE_WIDTH as usize + width as usize)
 }

@@ -7,15 +7,13 @@ use lib.ListN.{length}
 use Rattle.parts.specs.Part.{partsFrom}
 use Rattle.refusal.specs.Check.{Check, silent, refused, refusedIf, first}
 use Rattle.refusal.specs.Number.{listing-input}
-use Rattle.refusal.specs.Outcome.{Outcome, answered, refusal, after}
+use Rattle.refusal.specs.Outcome.{Outcome, answered, after}
 use Rattle.refusal.specs.Output.{filled}
 use Rattle.index_layout.specs.declared.Layout.{Layout}
 use Rattle.index_layout.specs.Layout.{onPage, layoutOf, keyAt}
 use Rattle.index.specs.Check.{fullCheck}
 use Rattle.index_layout.specs.Entries.{sizeAt, locationAt}
 use Rattle.lines.specs.Lines.{header, entryLine}
-use Rattle.listing.specs.declared.ListingText.{ListingText}
-use Rattle.listing.specs.declared.ListingText.the-variants.{Length, Refused}
 
 -- The line of slot i of page p.
 unfoldable pub line : List ℕ → Layout → ℕ → ℕ → List ℕ
@@ -42,11 +40,6 @@ inputCheck s = refusedIf (ltb 65536 (length s)) listing-input 0
 -- 70 first, then the full check (rule T9).
 unfoldable pub listingCheck : List ℕ → Check
 listingCheck s = first (inputCheck s) (fullCheck s)
-
--- What the listing tells: the length of the text.
-unfoldable pub outcome : ListingText → Outcome
-outcome (Length n) = answered (n ∷ [])
-outcome (Refused r) = refusal (r .number) (r .place)
 
 abbrev pub listingOutcome : List ℕ → Outcome
 listingOutcome s = after (listingCheck s) (answered (length (textOf s) ∷ []))

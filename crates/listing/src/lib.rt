@@ -8,10 +8,11 @@ use lines::put_header;
 use parts::part;
 use refusal::LISTING_INPUT;
 use refusal::Refusal;
+use refusal::Written;
 ghost use mathlib.Core.Path.{_≡_};
 ghost use Prim.Native.Nat.{_≤_};
 ghost use lib.ListN.{length};
-ghost use Rattle.refusal.specs.Outcome.{answered, after};
+ghost use Rattle.refusal.specs.Outcome.{answered, after, writtenOutcome};
 ghost use Rattle.index_layout.specs.Layout.{layoutOf};
 ghost use Rattle.index_open.specs.Open.{layoutValues, outcome};
 ghost use Rattle.parts.specs.Part.{overlay};
@@ -20,12 +21,6 @@ ghost use Rattle.listing.specs.Listing as spec;
 
 // The longest input that is listed.
 const MOST_INPUT: usize = 65_536;
-
-// What the listing answers: the length of its text, or a refusal.
-pub enum ListingText {
-    Length(usize),
-    Refused(Refusal),
-}
 
 // The line of an entry.
 fn put_line(index: &[u8], l: Layout, page: Page, slot: Slot, output: &mut [u8], at: usize) -> usize
@@ -100,19 +95,19 @@ fn put_text(index: &[u8], l: Layout, output: &mut [u8]) -> usize
 
 // The length of the listing of an index. The text stands at the output's start where there is room for all of it; else the output
 // stays as it was. It is measured by putting it where there is no room.
-pub fn listing(input: &[u8], output: &mut [u8]) -> ListingText
-    ensures { λ r. ⌜ spec.outcome r ≡ spec.listingOutcome (now (input .entry)) ⌝ }
+pub fn listing(input: &[u8], output: &mut [u8]) -> Written
+    ensures { λ r. ⌜ writtenOutcome r ≡ spec.listingOutcome (now (input .entry)) ⌝ }
     ensures { λ _. ⌜ now (output .exit) ≡ spec.fitted (spec.listingCheck (now (input .entry))) (spec.textOf (now (input .entry))) (now (output .entry)) ⌝ }
 {
     match check(input) {
-        Checked::Refused(r) => ListingText::Refused(r),
+        Checked::Refused(r) => Written::Refused(r),
         Checked::Passed(l) => {
             let mut no_room = [0u8; 0];
             let length = put_text(input, l, &mut no_room);
             if length <= output.len() {
                 put_text(input, l, output);
             }
-            ListingText::Length(length)
+            Written::Bytes(length)
         }
     }
 }

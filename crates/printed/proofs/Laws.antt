@@ -7,16 +7,16 @@ use native.Mathlib.Omega.{arith}
 use lib.ListN.{length, length-append}
 use borrow.Author.Tests.{le-leb}
 use Rattle.refusal.specs.declared.Refusal.{Refusal}
+use Rattle.refusal.specs.declared.Written.{Written}
+use Rattle.refusal.specs.declared.Written.the-variants.{Bytes, Refused}
 use Rattle.refusal.specs.Check.{Check, silent, refused}
-use Rattle.refusal.specs.Outcome.{answered, after}
+use Rattle.refusal.specs.Outcome.{answered, after, writtenOutcome}
 use Rattle.refusal.specs.Output.{filled}
 use Rattle.refusal.proofs.Laws.{answered-after, refusal-after}
 use Rattle.text.specs.Text.{ascii, decimal, numbered}
 use Rattle.text.proofs.PutLaws.{Put, put-whole}
 use Rattle.text.proofs.TextLaws.{decimal-most}
-use Rattle.listing.specs.declared.ListingText.{ListingText}
-use Rattle.listing.specs.declared.ListingText.the-variants.{Length, Refused}
-use Rattle.listing.specs.Listing.{textOf, listingCheck, outcome, listingOutcome, fitted}
+use Rattle.listing.specs.Listing.{textOf, listingCheck, listingOutcome, fitted}
 use Rattle.listing.proofs.Most.{text-most}
 use Rattle.printed.specs.Printed.{hasPlace, placeText, refusalLine, printedAfter, printed}
 
@@ -44,19 +44,19 @@ line-most number place = simp length-append (omega (arith, decimal-most number, 
 
 -- ---- what the listing's answer says
 
-module _ (s : List ℕ) (v : ListingText) (e : outcome v ≡ listingOutcome s) where
-  told-quiet : (n : ℕ) → v ≡ Length n → (listingCheck s ≡ silent) × (n ∷ [] ≡ length (textOf s) ∷ [])
-  unfolding outcome
-  told-quiet n g = answered-after (listingCheck s) (n ∷ []) (length (textOf s) ∷ []) (sym (ap outcome g) ∙ e)
+module _ (s : List ℕ) (v : Written) (e : writtenOutcome v ≡ listingOutcome s) where
+  told-quiet : (n : ℕ) → v ≡ Bytes n → (listingCheck s ≡ silent) × (n ∷ [] ≡ length (textOf s) ∷ [])
+  unfolding writtenOutcome
+  told-quiet n g = answered-after (listingCheck s) (n ∷ []) (length (textOf s) ∷ []) (sym (ap writtenOutcome g) ∙ e)
 
-  pub told-length : (n : ℕ) → v ≡ Length n → n ≡ length (printed s)
+  pub told-length : (n : ℕ) → v ≡ Bytes n → n ≡ length (printed s)
   unfolding printed printedAfter
   told-length n g =
       let a = told-quiet n g in
       let same : n ≡ length (textOf s) = cc (a .1) in
       same ∙ sym (ap (λ k. length (printedAfter k s)) (a .0))
 
-  pub told-bytes : (n : ℕ) (out last : List ℕ) → v ≡ Length n → length out ≡ 655360 → last ≡ fitted (listingCheck s) (textOf s) out
+  pub told-bytes : (n : ℕ) (out last : List ℕ) → v ≡ Bytes n → length out ≡ 655360 → last ≡ fitted (listingCheck s) (textOf s) out
       → last ≡ filled silent (printed s) out
   unfolding printed printedAfter fitted
   told-bytes n out last g room f =
@@ -66,8 +66,8 @@ module _ (s : List ℕ) (v : ListingText) (e : outcome v ≡ listingOutcome s) w
       ∙ sym (ap (λ k. filled silent (printedAfter k s) out) (a .0))
 
   told-refused : {r : Refusal} → v ≡ Refused r → listingCheck s ≡ refused (r .number) (r .place)
-  unfolding outcome
-  told-refused {r} g = refusal-after (listingCheck s) (r .number) (r .place) (length (textOf s) ∷ []) (sym (ap outcome g) ∙ e)
+  unfolding writtenOutcome
+  told-refused {r} g = refusal-after (listingCheck s) (r .number) (r .place) (length (textOf s) ∷ []) (sym (ap writtenOutcome g) ∙ e)
 
   line-printed : {r : Refusal} → v ≡ Refused r → refusalLine (r .number) (r .place) ≡ printed s
   unfolding printed printedAfter

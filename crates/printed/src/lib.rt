@@ -1,6 +1,5 @@
 // What the listing program prints: the listing of an index, or the line of a refusal.
 use field::within;
-use listing::ListingText;
 use listing::listing;
 use refusal::BLOCK_CUT;
 use refusal::CHUNK_HASH;
@@ -13,6 +12,7 @@ use refusal::INDEX_PAGE_HASH;
 use refusal::LAST_KEY;
 use refusal::LIST_FALLS;
 use refusal::Refusal;
+use refusal::Written;
 use text::put;
 use text::put_number;
 ghost use mathlib.Core.Path.{_≡_};
@@ -65,7 +65,7 @@ pub fn print(input: &[u8], output: &mut [u8; MOST_PRINTED]) -> usize
     ensures { λ _. ⌜ now (output .exit) ≡ filled silent (spec.printed (now (input .entry))) (now (output .entry)) ⌝ }
 {
     match listing(input, output) {
-        ListingText::Length(length) => length,
-        ListingText::Refused(r) => put_refusal(r, output),
+        Written::Bytes(length) => length,
+        Written::Refused(r) => put_refusal(r, output),
     }
 }

@@ -39,7 +39,7 @@ index-order = 8
 abbrev pub last-key : ℕ
 last-key = 9
 
--- sought key not K bytes
+-- key not K bytes
 abbrev pub index-key-length : ℕ
 index-key-length = 10
 
@@ -51,7 +51,7 @@ settings = 11
 abbrev pub list-length : ℕ
 list-length = 12
 
--- output shorter than the file or list to be written
+-- output shorter than what is to be written
 abbrev pub output-short : ℕ
 output-short = 13
 

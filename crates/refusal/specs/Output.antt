@@ -6,7 +6,7 @@ use lib.ListN.{length, drop}
 use Rattle.refusal.specs.Check.{Check, silent, refused, refusedIf}
 use Rattle.refusal.specs.Number.{output-short}
 
--- 13: the output is shorter than the file or list to be written (rules I19, I21).
+-- 13: the output is shorter than what is to be written (rules I19, I21, I28).
 abbrev pub roomCheck : (needed room : ℕ) → Check
 roomCheck needed room = refusedIf (ltb room needed) output-short 0
 

@@ -105,6 +105,12 @@ pub enum Verdict {
     Refused(Refusal),
 }
 
+// What a call that writes answers: how many bytes, or a refusal. specs/Outcome.antt has the meaning of each case.
+pub enum Written {
+    Bytes(usize),
+    Refused(Refusal),
+}
+
 // The verdict that refuses.
 pub fn refuse(number: u32, place: usize) -> Verdict
     ensures { λ r. ⌜ checkOf r ≡ refused number place ⌝ }

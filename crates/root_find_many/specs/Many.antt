@@ -11,8 +11,6 @@ use Rattle.root_layout.specs.Header.{layoutOf, layoutValues}
 use Rattle.root_block.specs.Block.{keySize}
 use Rattle.root.specs.Root.{rootCheck}
 use Rattle.root.specs.Lookup.{lookupOf, keyOr}
-use Rattle.root_find_many.specs.declared.Written.{Written}
-use Rattle.root_find_many.specs.declared.Written.the-variants.{Bytes, Refused}
 
 -- The bytes of an entry in the output.
 abbrev pub entrySize : ℕ
@@ -47,8 +45,3 @@ manyOutcome s ids room = after (manyCheck s ids room) (answered (entrySize * idC
 -- The output at the end: the entries, and what is behind them; as it was on refusal (rules G13, G16).
 abbrev pub manyOutput : (s ids : List ℕ) → (locale unwanted : ℕ) → List ℕ → List ℕ
 manyOutput s ids locale unwanted output = filled (manyCheck s ids (length output)) (manyBytes s ids locale unwanted) output
-
--- What the declared answers tell.
-unfoldable pub outcome : Written → Outcome
-outcome (Bytes n) = answered (n ∷ [])
-outcome (Refused r) = refusal (r .number) (r .place)

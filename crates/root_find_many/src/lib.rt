@@ -5,6 +5,7 @@ use id_list::ID_SIZE;
 use refusal::OUTPUT_SHORT;
 use refusal::Refusal;
 use refusal::Verdict;
+use refusal::Written;
 use root::judge;
 use root_block::Block;
 use root_block::DELTA_SIZE;
@@ -16,6 +17,7 @@ ghost use mathlib.Core.List.{[]};
 ghost use Prim.Native.Nat.{_+_, _*_, _<_, _≤_};
 ghost use lib.ListN.{length, drop};
 ghost use Rattle.refusal.specs.Check.{silent};
+ghost use Rattle.refusal.specs.Outcome.{writtenOutcome};
 ghost use Rattle.id_list.specs.Place.{Rising};
 ghost use Rattle.root_layout.specs.Header as header;
 ghost use Rattle.root_block.specs.Ids.{deltaAt};
@@ -29,12 +31,6 @@ mod entries;
 
 // The bytes of an entry in the output.
 pub const ENTRY_SIZE: usize = 20;
-
-// What the lookup answers: the bytes written, or a refusal.
-pub enum Written {
-    Bytes(usize),
-    Refused(Refusal),
-}
 
 // The delta of record i.
 fn delta_at(deltas: &[u8], i: u32) -> i32
@@ -161,7 +157,7 @@ fn judge_all(file: &[u8], ids: &[u8], room: usize) -> Opened
 
 // Looks up each id of a list that rises, in the blocks that share a locale bit and no unwanted content bit.
 pub fn find_many(file: &[u8], ids: &[u8], locale: u32, unwanted: u64, output: &mut [u8]) -> Written
-    ensures { λ r. ⌜ spec.outcome r ≡ spec.manyOutcome (now (file .entry)) (now (ids .entry)) (length (now (output .entry))) ⌝ }
+    ensures { λ r. ⌜ writtenOutcome r ≡ spec.manyOutcome (now (file .entry)) (now (ids .entry)) (length (now (output .entry))) ⌝ }
     ensures { λ _. ⌜ now (output .exit) ≡ spec.manyOutput (now (file .entry)) (now (ids .entry)) locale unwanted (now (output .entry)) ⌝ }
 {
     match judge_all(file, ids, output.len()) {

@@ -10,7 +10,9 @@ use Rattle.parts.specs.Part.{byteAt}
 use Rattle.parts.proofs.Laws.{overlay-length}
 use Rattle.refusal.specs.Check.{silent}
 use Rattle.refusal.specs.Number.{output-short}
-use Rattle.refusal.specs.Outcome.{answered}
+use Rattle.refusal.specs.declared.Written.{Written}
+use Rattle.refusal.specs.declared.Written.the-variants.{Bytes, Refused}
+use Rattle.refusal.specs.Outcome.{answered, writtenOutcome}
 use Rattle.refusal.specs.Output.{filled}
 use Rattle.refusal.proofs.Laws.{quiet, skip, first-left, after-quiet, answered-after}
 use Rattle.index_layout.specs.Layout.{footerSize, indexLength, layoutOf}
@@ -19,16 +21,10 @@ use Rattle.index_open.specs.Open.{opening, layoutValues}
 use Rattle.index_open.proofs.Laws.{passed-index}
 use Rattle.index_open.proofs.Opened.{opened}
 use Rattle.index.specs.Check.{pagesCheck, fullCheck}
-use Rattle.entries.specs.declared.Listed.{Listed}
-use Rattle.entries.specs.declared.Listed.the-variants.{Written, Refused}
-use Rattle.entries.specs.List as lists
 use Rattle.entries.specs.List.{listCheck}
 use Rattle.index_file.specs.File.{fileOf}
 use Rattle.index_file.proofs.Parts.{file-length}
 use Rattle.writer.specs.declared.Settings.{Settings}
-use Rattle.writer.specs.declared.Written as writer
-use Rattle.writer.specs.declared.Written.the-variants.{File}
-use Rattle.writer.specs.Write as writes
 use Rattle.writer.specs.Write.{layoutFor, writeCheck}
 use Rattle.writer.proofs.Passed.{passed, held}
 use Rattle.round_trip.specs.Same.{contentsHashOf, withContentsHash, settingsOf}
@@ -47,17 +43,10 @@ written-again s bytes e room h =
 -- ---- over the answers
 
 -- what an answer is where its outcome is known
-listed-is : (answer : Listed) (n : ℕ) → lists.outcome answer ≡ answered (n ∷ []) → answer ≡ Written n
-unfolding lists.outcome
-listed-is (Written m) n e = ap Written (cc e)
-listed-is (Refused r) n e =
-    let none : _≡_ {A = ℕ} 0 1 = cc e in
-    absurd (omega (arith, none))
-
-written-is : (answer : writer.Written) (n : ℕ) → writes.outcome answer ≡ answered (n ∷ []) → answer ≡ File n
-unfolding writes.outcome
-written-is (writer.the-variants.File m) n e = ap File (cc e)
-written-is (writer.the-variants.Refused r) n e =
+written-is : (answer : Written) (n : ℕ) → writtenOutcome answer ≡ answered (n ∷ []) → answer ≡ Bytes n
+unfolding writtenOutcome
+written-is (Bytes m) n e = ap Bytes (cc e)
+written-is (Refused r) n e =
     let none : _≡_ {A = ℕ} 0 1 = cc e in
     absurd (omega (arith, none))
 
@@ -66,13 +55,13 @@ begins : (answer output : List ℕ) (n : ℕ) → n ≡ length answer → take n
 begins answer output n e = take-at answer (drop (length answer) output) n (sym e)
 
 -- a checked index is listed where there is room
-module _ (s lent : List ℕ) (answer : Listed) (left : List ℕ) (c : Lists s lent answer left) (e : fullCheck s ≡ silent) (room : length (listOf s) ≤ length lent) where
+module _ (s lent : List ℕ) (answer : Written) (left : List ℕ) (c : Lists s lent answer left) (e : fullCheck s ≡ silent) (room : length (listOf s) ≤ length lent) where
   list-quiet : listCheck s (length lent) ≡ silent
   unfolding listCheck
   list-quiet = skip e (quiet output-short 0 refl (le-ltb (length lent) (length (listOf s)) room))
 
-  list-answer : answer ≡ Written (length (listOf s))
-  list-answer = listed-is answer (length (listOf s)) (c .answers ∙ after-quiet _ list-quiet)
+  list-answer : answer ≡ Bytes (length (listOf s))
+  list-answer = written-is answer (length (listOf s)) (c .answers ∙ after-quiet _ list-quiet)
 
   list-left : left ≡ listOf s ++ drop (length (listOf s)) lent
   unfolding filled
@@ -87,7 +76,7 @@ module _ (s : List ℕ) (c : Again s) where
   unfolding fullCheck
   opening-told = first-left (opening s) (pagesCheck s (layoutOf s)) (told .0)
 
-  listed-told : c .listed ≡ Written (length (listOf s))
+  listed-told : c .listed ≡ Bytes (length (listOf s))
   listed-told = list-answer s (c .list-lent) (c .listed) (c .listing) (c .list) (told .0) (c .list-room)
 
   list-read : take (bytesListed (c .listed)) (c .listing) ≡ listOf s
@@ -120,9 +109,9 @@ module _ (t : Settings) (list : List ℕ) (c : Back t list) where
   file = fileOf list (layoutFor t list)
 
   write-told : (writeCheck t list (length (c .file-lent)) ≡ silent) × (c .size ≡ indexLength (layoutFor t list))
-  unfolding writes.outcome
+  unfolding writtenOutcome
   write-told =
-      let a = answered-after (writeCheck t list (length (c .file-lent))) (c .size ∷ []) (indexLength (layoutFor t list) ∷ []) (sym (ap writes.outcome (c .passed)) ∙ c .write .answers) in
+      let a = answered-after (writeCheck t list (length (c .file-lent))) (c .size ∷ []) (indexLength (layoutFor t list) ∷ []) (sym (ap writtenOutcome (c .passed)) ∙ c .write .answers) in
       (a .0, (cc (a .1)))
 
   file-told : c .size ≡ length file
@@ -148,7 +137,7 @@ module _ (t : Settings) (list : List ℕ) (c : Back t list) where
   reads-back = record {
     checked = c .check ∙ after-quiet _ full-told ∙ ap (λ s. answered (layoutValues (layoutOf s))) file-read
         ∙ ap (λ l. answered (layoutValues l)) (layout-back t list (length (c .file-lent)) (write-told .0));
-    listed = list-answer (take (c .size) (c .output)) (c .list-lent) (c .listed) (c .listing) (c .relist) full-told list-fits ∙ ap (λ r. Written (length r)) list-told;
+    listed = list-answer (take (c .size) (c .output)) (c .list-lent) (c .listed) (c .listing) (c .relist) full-told list-fits ∙ ap (λ r. Bytes (length r)) list-told;
     entries = list-left (take (c .size) (c .output)) (c .list-lent) (c .listed) (c .listing) (c .relist) full-told list-fits
         ∙ ap (λ r. r ++ drop (length r) (c .list-lent)) list-told;
   }

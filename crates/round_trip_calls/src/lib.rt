@@ -1,15 +1,14 @@
 // A checked index, listed and written again, and a written one, read back: the calls of demand 2, one after the other. The demand is
 // what the two functions ensure, so that it rests on the contracts of the functions they call.
-use entries::Listed;
 use index_layout::Layout;
 use index_open::Checked;
 use parts::part;
+use refusal::Written;
 use writer::Settings;
-use writer::Written;
 ghost use mathlib.Core.Path.{_≡_};
 ghost use lib.ListN.{length};
+ghost use Rattle.refusal.specs.Outcome.{writtenOutcome};
 ghost use Rattle.index_open.specs.Open as checks;
-ghost use Rattle.writer.specs.Write as writes;
 ghost use Rattle.round_trip.specs.Same.{settingsOf};
 ghost use Rattle.round_trip_calls.specs.Trips as spec;
 
@@ -29,15 +28,15 @@ fn settings_of(l: Layout) -> Settings
 
 // Lists an index that passes the full check, and writes it again from that list and its settings.
 pub fn write_again(index: &[u8], list: &mut [u8], file: &mut [u8]) -> Written
-    ensures { λ r. ⌜ writes.outcome r ≡ spec.againOutcome (now (index .entry)) (length (now (list .entry))) (length (now (file .entry))) ⌝ }
+    ensures { λ r. ⌜ writtenOutcome r ≡ spec.againOutcome (now (index .entry)) (length (now (list .entry))) (length (now (file .entry))) ⌝ }
     ensures { λ _. ⌜ now (list .exit) ≡ spec.listLeft (now (index .entry)) (now (list .entry)) ⌝ }
     ensures { λ _. ⌜ now (file .exit) ≡ spec.fileAgain (now (index .entry)) (length (now (list .entry))) (now (file .entry)) ⌝ }
 {
     match index::check(index) {
         Checked::Refused(r) => Written::Refused(r),
         Checked::Passed(l) => match entries::list(index, list) {
-            Listed::Refused(r) => Written::Refused(r),
-            Listed::Written(n) => writer::write(settings_of(l), part(list, 0, n), file),
+            Written::Refused(r) => Written::Refused(r),
+            Written::Bytes(n) => writer::write(settings_of(l), part(list, 0, n), file),
         },
     }
 }
@@ -50,9 +49,9 @@ pub fn read_back(settings: Settings, list: &[u8], file: &mut [u8], again: &mut [
 {
     match writer::write(settings, list, file) {
         Written::Refused(r) => Checked::Refused(r),
-        Written::File(n) => match entries::list(part(file, 0, n), again) {
-            Listed::Refused(r) => Checked::Refused(r),
-            Listed::Written(_) => index::check(part(file, 0, n)),
+        Written::Bytes(n) => match entries::list(part(file, 0, n), again) {
+            Written::Refused(r) => Checked::Refused(r),
+            Written::Bytes(_) => index::check(part(file, 0, n)),
         },
     }
 }

@@ -7,10 +7,8 @@ use lib.Dec.{eqb}
 use lib.ListN.{length, drop}
 use Rattle.parts.specs.Part.{byteAt, partAt}
 use Rattle.refusal.specs.Check.{Check}
-use Rattle.refusal.specs.Outcome.{Outcome, answered, refusal, after}
+use Rattle.refusal.specs.Outcome.{Outcome, answered, after}
 use Rattle.refusal.specs.Output.{roomCheck, filled}
-use Rattle.worklist_unquoted.specs.declared.Written.{Written}
-use Rattle.worklist_unquoted.specs.declared.Written.the-variants.{Bytes, Refused}
 
 abbrev pub quote : ℕ
 quote = 34
@@ -53,11 +51,6 @@ unquotedCheck field room = roomCheck (length (contentOf field)) room
 -- What the output holds at the end (rule D8).
 abbrev pub unquotedOutput : (field output : List ℕ) → List ℕ
 unquotedOutput field output = filled (unquotedCheck field (length output)) (contentOf field) output
-
--- What unquoting tells: the bytes written.
-unfoldable pub outcome : Written → Outcome
-outcome (Bytes n) = answered (n ∷ [])
-outcome (Refused r) = refusal (r .number) (r .place)
 
 abbrev pub unquotedOutcome : List ℕ → ℕ → Outcome
 unquotedOutcome field room = after (unquotedCheck field room) (answered (length (contentOf field) ∷ []))

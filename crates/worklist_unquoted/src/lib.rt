@@ -5,20 +5,16 @@ use parts::part;
 use parts::rest;
 use refusal::OUTPUT_SHORT;
 use refusal::Refusal;
+use refusal::Written;
 ghost use mathlib.Core.Path.{_≡_};
 ghost use mathlib.Core.Bool.{false};
 ghost use Prim.Native.Nat.{_+_, _^_, _<_};
 ghost use lib.ListN.{length};
+ghost use Rattle.refusal.specs.Outcome.{writtenOutcome};
 ghost use Rattle.parts.specs.Part.{overlay};
 ghost use Rattle.worklist_unquoted.specs.Unquoted as spec;
 
 const QUOTE: u8 = 34;
-
-// What unquoting answers: the bytes written, or a refusal.
-pub enum Written {
-    Bytes(usize),
-    Refused(Refusal),
-}
 
 // Whether a field is one whole quoted field: its closing quote is its last byte.
 fn whole(field: &[u8]) -> bool
@@ -81,7 +77,7 @@ fn put(field: &[u8], output: &mut [u8]) -> usize
 
 // Writes the bytes that a field stands for. They are measured by putting them where there is no room.
 pub fn unquoted(field: &[u8], output: &mut [u8]) -> Written
-    ensures { λ r. ⌜ spec.outcome r ≡ spec.unquotedOutcome (now (field .entry)) (length (now (output .entry))) ⌝ }
+    ensures { λ r. ⌜ writtenOutcome r ≡ spec.unquotedOutcome (now (field .entry)) (length (now (output .entry))) ⌝ }
     ensures { λ _. ⌜ now (output .exit) ≡ spec.unquotedOutput (now (field .entry)) (now (output .entry)) ⌝ }
 {
     let mut no_room = [0u8; 0];

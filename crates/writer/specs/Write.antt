@@ -8,14 +8,12 @@ use Rattle.parts.specs.Part.{partAt}
 use Rattle.field.specs.Number.{within}
 use Rattle.key.specs.Order.{compared, isBelow}
 use Rattle.refusal.specs.Check.{Check, refusedIf, first, firstFrom}
-use Rattle.refusal.specs.Outcome.{Outcome, answered, refusal, after}
+use Rattle.refusal.specs.Outcome.{Outcome, answered, after}
 use Rattle.refusal.specs.Number.{settings, list-length, index-order}
 use Rattle.refusal.specs.Output.{roomCheck}
 use Rattle.index_layout.specs.declared.Layout.{Layout}
 use Rattle.index_layout.specs.Layout.{leastVersion, mostVersion, leastOffsetWidth, mostOffsetWidth, leastKeyLength, mostKeyLength, countCheck, entrySize, indexLength, layoutWith}
 use Rattle.writer.specs.declared.Settings.{Settings}
-use Rattle.writer.specs.declared.Written.{Written}
-use Rattle.writer.specs.declared.Written.the-variants.{File, Refused}
 
 -- The layout of an index with these settings and n entries.
 abbrev pub layoutOver : Settings → ℕ → Layout
@@ -64,11 +62,6 @@ inputCheck s list =
 -- Then 13 (rule I21).
 unfoldable pub writeCheck : Settings → List ℕ → ℕ → Check
 writeCheck s list room = first (inputCheck s list) (roomCheck (indexLength (layoutFor s list)) room)
-
--- What writing tells: the bytes of the file (rule I22).
-unfoldable pub outcome : Written → Outcome
-outcome (File n) = answered (n ∷ [])
-outcome (Refused r) = refusal (r .number) (r .place)
 
 abbrev pub writeOutcome : Settings → List ℕ → ℕ → Outcome
 writeOutcome s list room = after (writeCheck s list room) (answered (indexLength (layoutFor s list) ∷ []))

@@ -19,11 +19,12 @@ use refusal::LIST_LENGTH;
 use refusal::OUTPUT_SHORT;
 use refusal::Refusal;
 use refusal::SETTINGS;
+use refusal::Written;
 ghost use mathlib.Core.Path.{_≡_};
 ghost use Prim.Native.Nat.{_≤_};
 ghost use lib.ListN.{length};
 ghost use Rattle.refusal.specs.Check.{silent};
-ghost use Rattle.refusal.specs.Outcome.{answered, refusal, after};
+ghost use Rattle.refusal.specs.Outcome.{answered, refusal, after, writtenOutcome};
 ghost use Rattle.refusal.specs.Output.{filled};
 ghost use Rattle.index_layout.specs.Layout.{indexLength};
 ghost use Rattle.index_open.specs.Open as check;
@@ -36,12 +37,6 @@ pub struct Settings {
     pub version: u8,
     pub offset_width: u8,
     pub key_length: u8,
-}
-
-// What writing answers: the bytes of the file, or a refusal.
-pub enum Written {
-    File(usize),
-    Refused(Refusal),
 }
 
 fn refuse(number: u32, place: usize) -> Checked
@@ -106,7 +101,7 @@ fn write_file(list: &[u8], l: Layout, output: &mut [u8])
 
 // Writes the index of a list into the output.
 pub fn write(settings: Settings, list: &[u8], output: &mut [u8]) -> Written
-    ensures { λ r. ⌜ spec.outcome r ≡ spec.writeOutcome settings (now (list .entry)) (length (now (output .entry))) ⌝ }
+    ensures { λ r. ⌜ writtenOutcome r ≡ spec.writeOutcome settings (now (list .entry)) (length (now (output .entry))) ⌝ }
     ensures { λ _. ⌜ now (output .exit) ≡ filled (spec.writeCheck settings (now (list .entry)) (length (now (output .entry)))) (fileOf (now (list .entry)) (spec.layoutFor settings (now (list .entry)))) (now (output .entry)) ⌝ }
 {
     match judge(settings, list) {
@@ -119,17 +114,17 @@ pub fn write(settings: Settings, list: &[u8], output: &mut [u8]) -> Written
                 });
             }
             write_file(list, l, output);
-            Written::File(l.length())
+            Written::Bytes(l.length())
         }
     }
 }
 
 // The length of the file that a list gives.
 pub fn written_length(settings: Settings, list: &[u8]) -> Written
-    ensures { λ r. ⌜ spec.outcome r ≡ spec.lengthOutcome settings (now (list .entry)) ⌝ }
+    ensures { λ r. ⌜ writtenOutcome r ≡ spec.lengthOutcome settings (now (list .entry)) ⌝ }
 {
     match judge(settings, list) {
         Checked::Refused(r) => Written::Refused(r),
-        Checked::Passed(l) => Written::File(l.length()),
+        Checked::Passed(l) => Written::Bytes(l.length()),
     }
 }

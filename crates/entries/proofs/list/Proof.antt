@@ -5,7 +5,7 @@ use native.Mathlib.Nat.{le-of-eq, le-trans}
 use native.Mathlib.Omega.{arith}
 use lib.ListN.{length}
 use borrow.Author.Tests.{lt-ltb, le-ltb}
-use Rattle.refusal.specs.Outcome.{answered}
+use Rattle.refusal.specs.Outcome.{answered, writtenOutcome}
 use Rattle.refusal.specs.Output.{filled}
 use Rattle.refusal.specs.Number.{output-short}
 use Rattle.refusal.proofs.Laws.{said, quiet, first-said, skip, after-said, after-quiet}
@@ -14,7 +14,7 @@ use Rattle.index.specs.Check.{fullCheck}
 use Rattle.index_layout.specs.Entries.{listOf}
 use Rattle.index_layout.proofs.Laws.{bound}
 use Rattle.index_open.proofs.Laws.{refused-index}
-use Rattle.entries.specs.List.{listCheck, outcome}
+use Rattle.entries.specs.List.{listCheck}
 use Rattle.entries.proofs.Laws.{passed-list}
 use borrow.Author.Needs.{needs}
 use Rattle.entries.proofs.list.Statement.{statement}
@@ -39,7 +39,7 @@ mul-bytes : tie.Need-mul-bytes
 mul-bytes c = omega (arith, bound (c .before .before .before .l .given .0 .0 .entries) (c .entry-size .result) 4294967295 514 (omega arith) (omega arith))
 
 returns : tie.Need-returns
-unfolding filled listCheck outcome
+unfolding filled listCheck writtenOutcome
 returns c =
     let s = c .before .before .before .before .before .before .before .before .before .args .index .now in
     let k = c .before .before .before .before .before .before .check in
@@ -56,7 +56,7 @@ fill-requires c κs =
     le-trans (le-of-eq (ap length (i .list) ∙ sym (i .bytes))) (c .before .if1 .left)
 
 returns-2 : tie.Need-returns-2
-unfolding filled listCheck outcome
+unfolding filled listCheck writtenOutcome
 returns-2 c =
     let s = c .before .before .before .before .before .before .args .index .now in
     let k = c .before .before .before .check in
@@ -67,7 +67,7 @@ same-length : tie.Need-same-length
 same-length c = search needs
 
 returns-3 : tie.Need-returns-3
-unfolding filled listCheck outcome
+unfolding filled listCheck writtenOutcome
 returns-3 c =
     let s = c .before .before .before .before .before .before .before .before .before .before .before .before .before .args .index .now in
     let k = c .before .before .before .before .before .before .before .before .before .before .check in

@@ -2,11 +2,11 @@
 use mathlib.Core.Path.{_≡_, refl, sym, ap, ap₂, _∙_}
 use mathlib.Core.List.{[], _∷_}
 use lib.ListN.{length}
-use Rattle.refusal.specs.Outcome.{answered}
+use Rattle.refusal.specs.Outcome.{answered, writtenOutcome}
 use Rattle.refusal.proofs.Laws.{after-said, after-quiet}
 use Rattle.envelope_header.specs.Header.{headerOf}
 use Rattle.envelope_header.proofs.Laws.{passed-header, refused-header}
-use Rattle.envelope.specs.Envelope.{contentBy, contentCheck, outcome}
+use Rattle.envelope.specs.Envelope.{contentBy, contentCheck}
 use Rattle.envelope.proofs.Laws.{judged-sizes}
 use borrow.Author.Needs.{needs}
 use Rattle.envelope.proofs.content_length.Statement.{statement}
@@ -30,14 +30,14 @@ length-of-requires c κs =
     judged-sizes s (a .key .now) _ (i .0) (i .1)
 
 returns : tie.Need-returns
-unfolding outcome
+unfolding writtenOutcome
 returns c =
     let a = c .before .before .before .before .before .before .args in
     let j = c .before .before .before .judge in
     sym (after-said _ (refused-header (contentCheck (a .file .now) (a .key .now)) (headerOf (a .file .now)) (j .result) (j .ensures) (c .before .r .given .1)))
 
 returns-2 : tie.Need-returns-2
-unfolding outcome
+unfolding writtenOutcome
 returns-2 c =
     let a = c .before .before .before .before .before .before .before .args in
     let s = a .file .now in

@@ -5,12 +5,12 @@ use native.Mathlib.Omega.{arith}
 use lib.ListN.{length}
 use borrow.Author.Tests.{lt-ltb, le-ltb}
 use Rattle.refusal.specs.Number.{content-output-short}
-use Rattle.refusal.specs.Outcome.{answered}
+use Rattle.refusal.specs.Outcome.{answered, writtenOutcome}
 use Rattle.refusal.specs.Output.{filled}
 use Rattle.refusal.proofs.Laws.{said, quiet, first-said, skip, after-said, after-quiet}
 use Rattle.envelope_header.specs.Header.{headerOf}
 use Rattle.envelope_header.proofs.Laws.{passed-header, refused-header}
-use Rattle.envelope.specs.Envelope.{contentBy, content, contentCheck, openCheck, outcome}
+use Rattle.envelope.specs.Envelope.{contentBy, content, contentCheck, openCheck}
 use Rattle.envelope.proofs.Laws.{judged-sizes}
 use borrow.Author.Needs.{needs}
 use Rattle.envelope.proofs.open.Statement.{statement}
@@ -34,7 +34,7 @@ length-of-requires c κs =
     judged-sizes s (a .key .now) _ (i .0) (i .1)
 
 returns : tie.Need-returns
-unfolding openCheck outcome filled
+unfolding openCheck writtenOutcome filled
 returns c =
     let a = c .before .before .before .before .before .before .before .before .before .args in
     let s = a .file .now in
@@ -54,7 +54,7 @@ fill-requires c κs =
     (judged-sizes s (a .key .now) _ (i .0) (i .1), omega (arith, c .before .before .length-of .ensures, c .before .if1 .left))
 
 returns-2 : tie.Need-returns-2
-unfolding openCheck outcome filled
+unfolding openCheck writtenOutcome filled
 returns-2 c =
     let a = c .before .before .before .before .before .before .before .args in
     let s = a .file .now in
@@ -66,7 +66,7 @@ same-length : tie.Need-same-length
 same-length c = search needs
 
 returns-3 : tie.Need-returns-3
-unfolding openCheck outcome
+unfolding openCheck writtenOutcome
 returns-3 c =
     let a = c .before .before .before .before .before .before .before .before .before .before .before .before .before .args in
     let s = a .file .now in

@@ -4,10 +4,10 @@ use mathlib.Core.List.{_∷_, []}
 use native.Mathlib.Omega.{arith}
 use lib.ListN.{length}
 use borrow.Author.Needs.{needs}
-use Rattle.refusal.specs.Outcome.{answered}
+use Rattle.refusal.specs.Outcome.{answered, writtenOutcome}
 use Rattle.refusal.specs.Output.{filled}
 use Rattle.refusal.proofs.Laws.{refused-is, passed-is, after-said, after-quiet}
-use Rattle.list_entry.specs.Put.{locationOf, entryBytes, outcome}
+use Rattle.list_entry.specs.Put.{locationOf, entryBytes}
 use Rattle.list_entry.proofs.Laws.{fits}
 use Rattle.list_entry.proofs.put_entry.Statement.{statement}
 use Rattle.list_entry.proofs.put_entry.Tie as tie
@@ -19,7 +19,7 @@ enum-known-r : tie.Need-enum-known-r
 enum-known-r c = search needs
 
 returns : tie.Need-returns
-unfolding outcome filled
+unfolding writtenOutcome filled
 returns c =
     let a = c .before .before .before .before .before .before .args in
     let j = c .before .before .before .judge in
@@ -62,7 +62,7 @@ same-length : tie.Need-same-length
 same-length c = search needs
 
 returns-2 : tie.Need-returns-2
-unfolding outcome locationOf
+unfolding writtenOutcome locationOf
 returns-2 c =
     let a = c .before .before .before .before .before .before .before .before .before .args in
     let j = c .before .before .before .before .before .before .judge in

@@ -3,13 +3,13 @@ use mathlib.Core.Path.{sym, ap, _∙_}
 use mathlib.Core.List.{[], _∷_}
 use native.Mathlib.Omega.{arith}
 use borrow.Author.Needs.{needs}
-use Rattle.refusal.specs.Outcome.{answered}
+use Rattle.refusal.specs.Outcome.{answered, writtenOutcome}
 use Rattle.refusal.specs.Output.{filled}
 use Rattle.refusal.proofs.Laws.{after-said, after-quiet}
 use Rattle.index_layout.specs.Layout.{layoutOf}
 use Rattle.index_open.proofs.Laws.{refused-index}
 use Rattle.text.proofs.PutLaws.{told, put-same}
-use Rattle.listing.specs.Listing.{textOf, listingCheck, outcome, fitted}
+use Rattle.listing.specs.Listing.{textOf, listingCheck, fitted}
 use Rattle.listing.proofs.Laws.{Listable, listable, measured, fitted-whole, fitted-none}
 use Rattle.listing.proofs.listing.Statement.{statement}
 use Rattle.listing.proofs.listing.Tie as tie
@@ -36,7 +36,7 @@ put-text-requires-2 : tie.Need-put-text-requires-2
 put-text-requires-2 c κs = passed (c .before .before .before .before .before .before) .width
 
 returns : tie.Need-returns
-unfolding outcome fitted filled
+unfolding writtenOutcome fitted filled
 returns c =
     let s = c .before .before .before .before .before .before .args .input .now in
     let k = c .before .before .before .check in
@@ -47,7 +47,7 @@ same-length : tie.Need-same-length
 same-length c = search needs
 
 returns-2 : tie.Need-returns-2
-unfolding outcome
+unfolding writtenOutcome
 returns-2 c =
     let s = c .before .before .before .before .before .before .before .before .before .before .before .before .before .before .args .input .now in
     let i = passed (c .before .before .before .before .before .before .before .before .before) in
@@ -57,7 +57,7 @@ returns-2 c =
     (ap (λ n. answered (n ∷ [])) length-is ∙ sym (after-quiet _ (i .quiet)), fitted-whole _ (textOf s) _ _ put (omega (arith, c .before .before .before .before .if1 .taken)) ∙ e)
 
 returns-3 : tie.Need-returns-3
-unfolding outcome
+unfolding writtenOutcome
 returns-3 c =
     let s = c .before .before .before .before .before .before .before .before .before .before .args .input .now in
     let i = passed (c .before .before .before .before .before) in

@@ -2,6 +2,7 @@
 use mathlib.Core.Path.{_≡_, sym, ap, _∙_}
 use native.Mathlib.Omega.{arith}
 use lib.ListN.{length}
+use Rattle.refusal.specs.Outcome.{writtenOutcome}
 use Rattle.refusal.specs.Check.{silent}
 use Rattle.refusal.specs.Output.{filled}
 use Rattle.refusal.proofs.Laws.{after-said, after-quiet}
@@ -9,7 +10,7 @@ use Rattle.id_list.proofs.Laws.{ids-rise}
 use Rattle.root_layout.specs.Header.{layoutOf}
 use Rattle.root_layout.proofs.Laws.{passed-layout, refused-layout}
 use Rattle.root.proofs.First.{root-passed}
-use Rattle.root_find_many.specs.Many.{manyBytes, manyCheck, outcome}
+use Rattle.root_find_many.specs.Many.{manyBytes, manyCheck}
 use Rattle.root_find_many.specs.Entries.{Room}
 use Rattle.root_find_many.proofs.Whole.{root-passes, ids-pass, room-there, all-filled}
 use borrow.Author.Needs.{needs}
@@ -55,7 +56,7 @@ mul-t16 c =
     omega (arith, room-there (a .file .now) (a .ids .now) (length (a .output .now)) (passed l .0), start .good)
 
 returns : tie.Need-returns
-unfolding filled outcome
+unfolding filled writtenOutcome
 returns c =
     let j = c .before .before .before in
     let a = start-at j .args in
@@ -68,7 +69,7 @@ same-length : tie.Need-same-length
 same-length c = c .before .before .fill .ensures .0 .size
 
 returns-2 : tie.Need-returns-2
-unfolding filled outcome
+unfolding filled writtenOutcome
 returns-2 c =
     let l = c .before .before .before .before .before in
     let a = start-at (l .before .before) .args in

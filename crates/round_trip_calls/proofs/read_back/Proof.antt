@@ -6,18 +6,16 @@ use lib.ListN.{length}
 use borrow.Author.Needs.{needs}
 use Rattle.parts.specs.Part.{partAt}
 use Rattle.refusal.specs.Check.{silent}
-use Rattle.refusal.specs.Outcome.{answered, after}
+use Rattle.refusal.specs.Outcome.{answered, after, writtenOutcome}
 use Rattle.refusal.specs.Output.{filled}
 use Rattle.refusal.proofs.Laws.{refusal-after, answered-after}
 use Rattle.index_layout.specs.Layout.{indexLength}
 use Rattle.index_layout.specs.Entries.{listOf}
 use Rattle.index_open.specs.Open.{outcome}
 use Rattle.index.specs.Check.{checkOutcome}
-use Rattle.entries.specs.List as lists
 use Rattle.entries.specs.List.{listCheck, listOutcome}
 use Rattle.index_file.specs.File.{fileOf}
 use Rattle.writer.specs.declared.Settings.{Settings}
-use Rattle.writer.specs.Write as writes
 use Rattle.writer.specs.Write.{layoutFor, writeCheck}
 use Rattle.round_trip_calls.specs.Trips.{backCheck}
 use Rattle.round_trip_calls.proofs.Laws.{kept, back-refused, back-told, file-read, list-answer, list-left, check-answer}
@@ -51,13 +49,13 @@ room c = length (begun c .args .again .now)
 wrote : (c : tie.After-n)
     → (writeCheck (settings (written c)) (list (written c)) (length (lent (written c))) ≡ silent)
     × (c .n .given .0 .0 ≡ indexLength (layoutFor (settings (written c)) (list (written c))))
-unfolding writes.outcome
+unfolding writtenOutcome
 wrote c =
     let w = written c in
     let size = indexLength (layoutFor (settings w) (list w)) in
     let quiet =
     answered-after (writeCheck (settings w) (list w) (length (lent w))) _ (size ∷ [])
-    (sym (ap writes.outcome (c .n .given .1)) ∙ w .write .ensures .0) in
+    (sym (ap writtenOutcome (c .n .given .1)) ∙ w .write .ensures .0) in
     (quiet .0, cc (quiet .1))
 
 -- the bytes that are listed are the file
@@ -68,7 +66,7 @@ module _ (c : tie.After-list) where
   read : partAt (w .write .last .1 .1 .0) 0 (told c .n .given .0 .0) ≡ fileOf (list w) (layoutFor (settings w) (list w))
   read = file-read (settings w) (list w) (length (lent w)) (room w) (wrote (told c) .0) (lent w) _ _ (w .write .ensures .1) (wrote (told c) .1)
 
-  listed : lists.outcome (c .list .result) ≡ after (backCheck (settings w) (list w) (length (lent w)) (room w)) (answered (length (list w) ∷ []))
+  listed : writtenOutcome (c .list .result) ≡ after (backCheck (settings w) (list w) (length (lent w)) (room w)) (answered (length (list w) ∷ []))
   listed =
       c .list .ensures .0 ∙ ap (λ (s : List ℕ). listOutcome s (room w)) (c .before .before .part .ensures .0 ∙ read)
       ∙ list-answer (settings w) (list w) (length (lent w)) (room w) (wrote (told c) .0)
@@ -80,33 +78,33 @@ module _ (c : tie.After-list) where
       ∙ list-left (settings w) (list w) (length (lent w)) (room w) (wrote (told c) .0) (begun w .args .again .now)
 
 returns : tie.Need-returns
-unfolding outcome writes.outcome
+unfolding outcome writtenOutcome
 returns c =
     let w = c .before .before .before .before .before in
     let size = indexLength (layoutFor (settings w) (list w)) in
     let e =
     refusal-after (writeCheck (settings w) (list w) (length (lent w))) _ _ (size ∷ [])
-    (sym (ap writes.outcome (c .before .r .given .1)) ∙ w .write .ensures .0) in
+    (sym (ap writtenOutcome (c .before .r .given .1)) ∙ w .write .ensures .0) in
     let f = back-refused (settings w) (list w) (length (lent w)) (room w) _ _ e in
     (back-told (settings w) (list w) (length (lent w)) (room w) f, (w .write .ensures .1, kept _ _ f))
 
 returns-2 : tie.Need-returns-2
-unfolding outcome lists.outcome
+unfolding outcome writtenOutcome
 returns-2 c =
     let l = c .before .before .before .before .before in
     let w = written (told l) in
     let f =
     refusal-after (backCheck (settings w) (list w) (length (lent w)) (room w)) _ _ (length (list w) ∷ [])
-    (sym (ap lists.outcome (c .before .r2 .given .1)) ∙ listed l) in
+    (sym (ap writtenOutcome (c .before .r2 .given .1)) ∙ listed l) in
     (back-told (settings w) (list w) (length (lent w)) (room w) f, (w .write .ensures .1, left l))
 
 returns-3 : tie.Need-returns-3
-unfolding lists.outcome
+unfolding writtenOutcome
 returns-3 c =
     let tell = c .before .before .before in
     let l = tell .before .before .before .before in
     let w = written (told l) in
-    let told-list = sym (ap lists.outcome (tell .enum-told .given .1)) ∙ listed l in
+    let told-list = sym (ap writtenOutcome (tell .enum-told .given .1)) ∙ listed l in
     let quiet = answered-after (backCheck (settings w) (list w) (length (lent w)) (room w)) _ _ told-list .0 in
     let checked =
     c .check .ensures ∙ ap (λ (s : List ℕ). checkOutcome s) (c .before .part2 .ensures .0 ∙ read l)

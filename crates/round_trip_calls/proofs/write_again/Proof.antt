@@ -5,14 +5,13 @@ use Prim.Native.Nat.{ℕ, _<_}
 use lib.ListN.{length}
 use borrow.Author.Needs.{needs}
 use Rattle.parts.specs.Part.{byteAt}
+use Rattle.refusal.specs.Outcome.{writtenOutcome}
 use Rattle.refusal.proofs.Laws.{refusal-after, answered-after}
 use Rattle.index_layout.specs.Layout.{layoutOf}
 use Rattle.index_layout.specs.Entries.{listOf}
 use Rattle.index_open.proofs.Laws.{passed-index, refused-index}
 use Rattle.index.specs.Check.{fullCheck}
-use Rattle.entries.specs.List as lists
 use Rattle.entries.specs.List.{listCheck}
-use Rattle.writer.specs.Write.{outcome}
 use Rattle.round_trip_calls.proofs.Laws.{kept, again-refused, again-told, list-refused, settled}
 use Rattle.round_trip_calls.proofs.write_again.Statement.{statement}
 use Rattle.round_trip_calls.proofs.write_again.Tie as tie
@@ -25,7 +24,7 @@ abbrev checked : tie.After-slice-known3 → tie.After-check
 checked c = c .before .before .before .before .before .before .before
 
 returns : tie.Need-returns
-unfolding outcome
+unfolding writtenOutcome
 returns c =
     let k = c .before .before .before in
     let a = begun k .before .args in
@@ -36,19 +35,19 @@ returns c =
     (again-told s room (length (a .file .now)) _ _ e, (kept _ _ e, kept _ _ f))
 
 returns-2 : tie.Need-returns-2
-unfolding outcome lists.outcome
+unfolding writtenOutcome
 returns-2 c =
     let l = c .before .before .before in
     let a = begun (checked l) .before .args in
     let s = a .index .now in
     let room = length (a .list .now) in
     let list = l .before .before .list in
-    let e = refusal-after (listCheck s room) _ _ (length (listOf s) ∷ []) (sym (ap lists.outcome (c .before .r2 .given .1)) ∙ list .ensures .0) in
+    let e = refusal-after (listCheck s room) _ _ (length (listOf s) ∷ []) (sym (ap writtenOutcome (c .before .r2 .given .1)) ∙ list .ensures .0) in
     let f = again-refused s room (length (a .file .now)) _ _ e in
     (again-told s room (length (a .file .now)) _ _ e, (list .ensures .1, kept _ _ f))
 
 returns-3 : tie.Need-returns-3
-unfolding lists.outcome
+unfolding writtenOutcome
 returns-3 c =
     let write = c .before .before in
     let part = write .before .before in
@@ -61,7 +60,7 @@ returns-3 c =
     let list = l .before .before .list in
     let yes = passed-index (fullCheck s) _ (layoutOf s) (k .check .result) (k .check .ensures) (l .before .before .before .before .before .l .given .1) in
     let quiet =
-    answered-after (listCheck s (length (a .list .now))) _ (length (listOf s) ∷ []) (sym (ap lists.outcome (told .n .given .1)) ∙ list .ensures .0) in
+    answered-after (listCheck s (length (a .list .now))) _ (length (listOf s) ∷ []) (sym (ap writtenOutcome (told .n .given .1)) ∙ list .ensures .0) in
     let size : told .n .given .0 .0 ≡ length (listOf s) = cc (quiet .1) in
     let bytes : (i : ℕ) → byteAt s i < 256 = λ i. begun k .shared-slice-known .given i .fits in
     let same = settled s bytes (yes .0) (a .list .now) (list .last .1 .0) _ (length (a .file .now)) _ _ _ (quiet .0) (list .ensures .1) size

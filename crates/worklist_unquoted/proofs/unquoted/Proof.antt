@@ -1,18 +1,18 @@
 -- `worklist_unquoted::unquoted`: 13, then the content.
-use Rattle.worklist_unquoted.specs.Unquoted.{outcome}
+use Rattle.refusal.specs.Outcome.{writtenOutcome}
 use Rattle.worklist_unquoted.proofs.Laws.{told-short, told-written}
 use borrow.Author.Needs.{needs}
 use Rattle.worklist_unquoted.proofs.unquoted.Statement.{statement}
 use Rattle.worklist_unquoted.proofs.unquoted.Tie as tie
 
 returns : tie.Need-returns
-unfolding outcome
+unfolding writtenOutcome
 returns c =
     let a = c .before .before .before .before .before .before .args in
     told-short (a .field .now) (a .output .now) _ (c .before .before .put .ensures .0) (c .if1 .taken)
 
 returns-2 : tie.Need-returns-2
-unfolding outcome
+unfolding writtenOutcome
 returns-2 c =
     let room = c .before .before .before .before in
     let put = room .before .before in

@@ -3,14 +3,14 @@ use mathlib.Core.Path.{sym, ap, subst, _∙_}
 use mathlib.Core.List.{_∷_, []}
 use Prim.Native.Nat.{_≤_}
 use lib.ListN.{length}
-use Rattle.refusal.specs.Outcome.{answered}
+use Rattle.refusal.specs.Outcome.{answered, writtenOutcome}
 use Rattle.refusal.specs.Check.{silent}
 use Rattle.refusal.specs.Output.{filled}
 use Rattle.refusal.proofs.Laws.{first-said, after-said, after-quiet}
 use Rattle.index_layout.specs.Layout.{indexLength}
 use Rattle.index_open.proofs.Laws.{passed-index, refused-index}
 use Rattle.index_file.specs.File.{fileOf}
-use Rattle.writer.specs.Write.{layoutFor, inputCheck, writeCheck, outcome}
+use Rattle.writer.specs.Write.{layoutFor, inputCheck, writeCheck}
 use Rattle.index_file.specs.Held.{Held}
 use Rattle.writer.proofs.Laws.{no-room, room-left}
 use Rattle.writer.proofs.Passed.{passed, held}
@@ -31,7 +31,7 @@ length-requires : tie.Need-length-requires
 length-requires c κs = search needs
 
 returns : tie.Need-returns
-unfolding outcome filled
+unfolding writtenOutcome filled
 returns c =
     let a = c .before .before .before .before .before .before .before .before .args in
     let s = a .settings in
@@ -59,7 +59,7 @@ length-requires-2 : tie.Need-length-requires-2
 length-requires-2 c κs = search needs
 
 returns-2 : tie.Need-returns-2
-unfolding outcome filled writeCheck
+unfolding writtenOutcome filled writeCheck
 returns-2 c =
     let a = c .before .before .before .before .before .before .args in
     let s = a .settings in
@@ -72,7 +72,7 @@ same-length : tie.Need-same-length
 same-length c = search needs
 
 returns-3 : tie.Need-returns-3
-unfolding outcome
+unfolding writtenOutcome
 returns-3 c =
     let a = c .before .before .before .before .before .before .before .before .before .before .before .before .before .args in
     let s = a .settings in

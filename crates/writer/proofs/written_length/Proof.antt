@@ -1,11 +1,11 @@
 -- `writer::written_length`: refused, or the length of the file.
 use mathlib.Core.Path.{sym, ap, _∙_}
 use mathlib.Core.List.{_∷_, []}
-use Rattle.refusal.specs.Outcome.{answered}
+use Rattle.refusal.specs.Outcome.{answered, writtenOutcome}
 use Rattle.refusal.proofs.Laws.{after-said, after-quiet}
 use Rattle.index_layout.specs.Layout.{indexLength}
 use Rattle.index_open.proofs.Laws.{passed-index, refused-index}
-use Rattle.writer.specs.Write.{layoutFor, inputCheck, outcome}
+use Rattle.writer.specs.Write.{layoutFor, inputCheck}
 use borrow.Author.Needs.{needs}
 use Rattle.writer.proofs.written_length.Statement.{statement}
 use Rattle.writer.proofs.written_length.Tie as tie
@@ -23,14 +23,14 @@ length-requires : tie.Need-length-requires
 length-requires c κs = search needs
 
 returns : tie.Need-returns
-unfolding outcome
+unfolding writtenOutcome
 returns c =
     let a = c .before .before .before .before .before .args in
     let v = c .before .before .before .judge in
     sym (after-said _ (refused-index (inputCheck (a .settings) (a .list .now)) (layoutFor (a .settings) (a .list .now)) (v .result) (v .ensures) (c .before .r .given .1)))
 
 returns-2 : tie.Need-returns-2
-unfolding outcome
+unfolding writtenOutcome
 returns-2 c =
     let a = c .before .before .before .before .before .before .args in
     let v = c .before .before .before .before .judge in

@@ -1,9 +1,10 @@
 -- `dwarnizza::indexes::dwarnizza_index_page`: what `index_page::find` answers for the page of the number, laid out.
-use mathlib.Core.Path.{_≡_, sym, ap, _∙_}
+use mathlib.Core.Path.{_≡_, refl, sym, ap, _∙_}
 use Rattle.index_page.specs.Page.{values, outcome, pageOutcome}
 use Rattle.index_page.proofs.Laws.{page-of-number}
-use Rattle.dwarnizza.specs.Answer.{result, answerWords}
+use Rattle.crossing.specs.Crossing.{result, answerWords}
 use borrow.Author.Needs.{needs}
+use Rattle.crossing.proofs.Laws.{crosses-as}
 use Rattle.dwarnizza.proofs.indexes.dwarnizza_index_page.Statement.{statement}
 use Rattle.dwarnizza.proofs.indexes.dwarnizza_index_page.Tie as tie
 
@@ -18,19 +19,19 @@ returns : tie.Need-returns
 unfolding outcome
 returns c =
     let e = sym (ap outcome (c .before .before .before .r .given .1)) ∙ found (c .before .before .before .before .before) in
-    (c .refused .ensures .0 ∙ ap result e, c .refused .ensures .1 ∙ ap answerWords e)
+    crosses-as e (c .refused .ensures)
 
 returns-2 : tie.Need-returns-2
 unfolding outcome result answerWords
 returns-2 c =
     let e = sym (ap outcome (c .before .enum-told .given .1)) ∙ found (c .before .before .before) in
-    (ap result e, ap answerWords e)
+    crosses-as e (record { result-is = refl; words-are = refl })
 
 returns-3 : tie.Need-returns-3
 unfolding outcome values result answerWords
 returns-3 c =
     let e = sym (ap outcome (c .before .before .before .p .given .1)) ∙ found (c .before .before .before .before .before) in
-    (ap result e, ap answerWords e)
+    crosses-as e (record { result-is = refl; words-are = refl })
 
 pub dwarnizza-index-page-spec : {M : Type 1} → statement M
 dwarnizza-index-page-spec =

@@ -1,6 +1,6 @@
 -- `dwarnizza::worklists::span_words`: a word for each value.
 use Rattle.worklist.specs.Rows.{spanValues}
-use Rattle.dwarnizza.specs.Answer.{answerWords}
+use Rattle.crossing.specs.Crossing.{answerWords}
 use Rattle.dwarnizza.proofs.worklists.span_words.Statement.{statement}
 use Rattle.dwarnizza.proofs.worklists.span_words.Tie as tie
 
