@@ -28,7 +28,7 @@ pub record Stands (s : List ℕ) (h : Header) (n : ℕ) : Type 0 where
 
 -- What asking for spec n answers, and the string that is returned, with the offset in the file where it lies (rules E23, E24).
 pub record SpecAgrees (s : List ℕ) (n : ℕ) (answer : Outcome) (string : List ℕ) (place : ℕ) : Type 0 where
-  -- It is found exactly where the table has so many, with the place and length that the plain reading of the table gives.
+  -- It is found exactly where the table has a string with this number, with the place and length that the plain reading of the table gives.
   pub same : answer ≡ plainSpec s n
   pub told : n < length (specsIn s) → answer ≡ answered (specAt s (headerOf s) n ∷ specLength s (headerOf s) n ∷ [])
   pub stands : n < length (specsIn s) → Stands s (headerOf s) n

@@ -1,5 +1,5 @@
 // The parts of an archive index before its footer: pages, last keys and page hashes. Each function answers for any list,
-// layout and output: what has no room is left out.
+// layout and output: bytes that do not fit are dropped.
 use index::page_hashes;
 use index_layout::HASH_LENGTH;
 use index_layout::Layout;

@@ -88,7 +88,7 @@ pub fn page_at(page: Page) -> usize
 }
 
 impl Layout {
-    // The layout of an index with these settings and so many entries.
+    // The layout of an index with these settings and this number of entries.
     pub fn new(version: u8, offset_width: u8, key_length: u8, entries: u32) -> Layout
         ensures { λ r. ⌜ r ≡ spec.layoutWith version «offset_width» «key_length» entries ⌝ }
     {

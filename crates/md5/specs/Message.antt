@@ -46,7 +46,7 @@ absorbed s part =
 unfoldable pub finished : Md5 → List ℕ
 finished s = digestOf (whole addends (waiting s ++ padding (s .count)) (s .words))
 
--- Whether so many bytes in all are more than 2^48 (rule H14).
+-- Whether this total of bytes is more than 2^48 (rule H14).
 abbrev pub tooLong : ℕ → Bool
 tooLong total = ltb (2 ^ 48) total
 

@@ -25,7 +25,7 @@ unfoldable pub allZero : List ℕ → Bool
 allZero [] = true
 allZero (x ∷ s) = eqb x 0 && allZero s
 
--- A list with the bytes of another in place of its own from an offset on. What has no room is left out (rule G17).
+-- A list with the bytes of another in place of its own from an offset on. Bytes that do not fit are dropped (rule G17).
 unfoldable pub overlay : List ℕ → ℕ → List ℕ → List ℕ
 overlay [] at from = []
 overlay (x ∷ to) (suc at) from = x ∷ overlay to at from

@@ -1,4 +1,4 @@
--- Laws of checks: what a check that has spoken, or has not, says of its test.
+-- Laws of checks: what a check that refused, or passed, says of its test.
 use mathlib.Core.Path.{_≡_, refl, sym, ap, ap₂, _∙_}
 use mathlib.Core.Bool.{Bool, true, false}
 use Prim.Native.Nat.{ℕ, zero, suc, _+_, _-_, _≤_, _<_}
@@ -44,7 +44,7 @@ pub quiet : {k : Check} {test : Bool} (number place : ℕ) → k ≡ refusedIf t
 unfolding refusedIf
 quiet number place p e = p ∙ ap (λ t. refusedIf t number place) e
 
--- a sequence, once its first check has spoken or not
+-- a sequence, once its first check refused or passed
 pub first-said : {k : Check} (later : Check) {number place : ℕ} → k ≡ refused number place → first k later ≡ refused number place
 unfolding first
 first-said later e = ap (λ k. first k later) e
@@ -70,7 +70,7 @@ pub first-passed : (v : Verdict) (later : Check) → v ≡ Passed → first (che
 unfolding first checkOf
 first-passed v later e = rw e
 
--- the first that speaks of numbered checks: one more, and the end
+-- the first of numbered checks that refuses: one more, and the end
 pub from-said : (check : ℕ → Check) (i n : ℕ) {number place : ℕ} → 0 < n → check i ≡ refused number place → firstFrom check i n ≡ refused number place
 unfolding firstFrom
 from-said check i zero h e = absurd (not-suc-le-zero h)
@@ -103,7 +103,7 @@ module _ (check : ℕ → Check) (i n : ℕ) where
       let none : n - i ≡ 0 = omega arith in
       ap (firstFrom check i) none ∙ from-none check i
 
--- where none speaks, each is silent
+-- where no check refuses, each is silent
 pub from-each : (check : ℕ → Check) (i n : ℕ) → firstFrom check i n ≡ silent → (j : ℕ) → j < n → check (i + j) ≡ silent
 unfolding firstFrom
 from-each check i zero e j h = absurd (not-suc-le-zero h)
@@ -112,7 +112,7 @@ from-each check i (suc n) e (suc j) h =
     let shift : i + suc j ≡ suc i + j = omega arith in
     rw shift (from-each check (suc i) n (first-right (check i) (firstFrom check (suc i) n) e) j (le-of-suc-le-suc h))
 
--- and where each is silent, none speaks
+-- and where each is silent, none refuses
 pub from-silent : (check : ℕ → Check) (i n : ℕ) → ((j : ℕ) → i ≤ j → j < i + n → check j ≡ silent) → firstFrom check i n ≡ silent
 unfolding firstFrom
 from-silent check i zero h = refl

@@ -17,7 +17,7 @@ use Rattle.root_block.specs.declared.Block.{Block}
 use Rattle.root_block.specs.Ids.{idsCheck}
 use Rattle.root_block.specs.Block.{blockOf, hashSize, blockSize, deltasOf, keysAt, keyAt, hashAt, cutCheck, blockCheck}
 
--- so many bytes for each of a count of records
+-- the same number of bytes for each of a count of records
 pub bytes-fit : (k n m : ℕ) → k ≤ m → n ≤ 4294967295 → k * n ≤ m * 4294967295
 bytes-fit k n m h l = mul-le-mul h l
 

@@ -137,7 +137,7 @@ fn version1() -> Layout
     }
 }
 
-// The layout of a file with magic and a header of so many bytes.
+// The layout of a file with magic and a header of `start` bytes.
 fn later(start: u32) -> Layout
     ensures { λ r. ⌜ r ≡ spec.later start ⌝ }
 {

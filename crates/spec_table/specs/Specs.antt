@@ -33,7 +33,7 @@ unfoldable pub countOf : List ℕ → ℕ
 countOf [] = 0
 countOf (b ∷ t) = cond (eqb b 0) 1 0 + countOf t
 
--- Where string n begins: behind n zero bytes. The table's length where there are not so many.
+-- Where string n begins: behind n zero bytes. The table's length where there is no such string.
 unfoldable pub startOf : List ℕ → ℕ → ℕ
 startOf [] n = 0
 startOf (b ∷ t) zero = 0

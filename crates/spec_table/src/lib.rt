@@ -72,7 +72,7 @@ fn pass_blocks(table: &[u8], number: u32) -> Place
     Place { at, left }
 }
 
-// Where string `number` begins; the table's length where there are not so many.
+// Where string `number` begins; the table's length where there is no such string.
 pub fn start(table: &[u8], number: u32) -> usize
     ensures { λ r. ⌜ r ≡ spec.startOf (now (table .entry)) number ⌝ }
 {

@@ -1,5 +1,5 @@
 // Text as bytes, put into output from a place on. Each function tells the place after its text, at most the greatest `usize`,
-// which no output reaches; what has no room is left out.
+// which no output reaches; bytes that do not fit are dropped.
 use parts::copy;
 ghost use mathlib.Core.Path.{_≡_};
 ghost use mathlib.Core.List.{_++_};
@@ -11,7 +11,7 @@ ghost use Rattle.text.specs.Place.{placeAfter};
 
 const GREATEST: usize = 18_446_744_073_709_551_615;
 
-// The place after so many bytes.
+// The place `length` bytes after another.
 fn place_after(at: usize, length: usize) -> usize
     ensures { λ r. ⌜ r ≡ placeAfter at length ⌝ }
 {

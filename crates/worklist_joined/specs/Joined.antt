@@ -106,7 +106,7 @@ laidRow t at (malformed place) out = out
 abbrev pub copiedFields : (sep : ℕ) → List ℕ → (at : ℕ) → List ℕ → List ℕ
 copiedFields sep t at out = cond (noSeparator sep) out (cond (ltb at (length t)) (laidRow t at (rowAt sep t at) out) out)
 
--- A row that is not malformed begins there and has so many fields.
+-- A row that is not malformed begins there and has this number of fields.
 pub record HasFields (sep : ℕ) (t : List ℕ) (at count : ℕ) : Type 0 where
   pub separator : noSeparator sep ≡ false
   pub inside : at < length t

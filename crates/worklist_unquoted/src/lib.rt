@@ -46,7 +46,7 @@ fn step(b: u8) -> usize
     if b == QUOTE { 2 } else { 1 }
 }
 
-// Puts bytes into the output with each doubled quote as one, and tells how many they are. What has no room is left out.
+// Puts bytes into the output with each doubled quote as one, and tells how many they are. Bytes that do not fit are dropped.
 fn put_undoubled(bytes: &[u8], output: &mut [u8]) -> usize
     requires { ⌜ length (now bytes) + 1 < 2 ^ 64 ⌝ }
     ensures { λ r. ⌜ r ≡ length (spec.undoubled false (now (bytes .entry))) ⌝ }
@@ -63,7 +63,7 @@ fn put_undoubled(bytes: &[u8], output: &mut [u8]) -> usize
     to
 }
 
-// Puts the bytes that a field stands for into the output, and tells how many they are. What has no room is left out.
+// Puts the bytes that a field stands for into the output, and tells how many they are. Bytes that do not fit are dropped.
 fn put(field: &[u8], output: &mut [u8]) -> usize
     ensures { λ r. ⌜ r ≡ length (spec.contentOf (now (field .entry))) ⌝ }
     ensures { λ _. ⌜ now (output .exit) ≡ overlay (now (output .entry)) 0 (spec.contentOf (now (field .entry))) ⌝ }

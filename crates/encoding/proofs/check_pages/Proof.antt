@@ -1,4 +1,4 @@
--- `encoding::check_pages`: before page i none spoke, and the last key is known.
+-- `encoding::check_pages`: no check failed before page i, and the last key is known.
 use mathlib.Core.Path.{_≡_, refl, sym, ap}
 use Prim.Native.Nat.{_+_, _-_}
 use native.Mathlib.Omega.{arith}

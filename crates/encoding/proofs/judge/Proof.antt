@@ -1,4 +1,4 @@
--- `encoding::judge`: the first of five tests that speaks.
+-- `encoding::judge`: the first of five tests that refuses.
 use mathlib.Core.Path.{sym, ap, _∙_}
 use borrow.Author.Needs.{needs}
 use Rattle.parts.specs.Part.{sameBytes}

@@ -1,4 +1,4 @@
--- `key_text::check_digits`: the characters passed are digits, and the first that is none speaks.
+-- `key_text::check_digits`: the characters passed are digits, and the first that is none is refused.
 use mathlib.Core.Path.{sym, _∙_}
 use Prim.Native.Nat.{_-_}
 use native.Mathlib.Omega.{arith}

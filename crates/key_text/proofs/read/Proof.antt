@@ -1,4 +1,4 @@
--- `key_text::read`: after each turn so many of the key's bytes stand over the zeros.
+-- `key_text::read`: after turn i the first i bytes of the key stand over the zeros.
 use mathlib.Core.Path.{_≡_, _∙_}
 use Prim.Native.Nat.{_+_, _-_, _*_, _/_, _≤_, _<_}
 use native.Mathlib.Omega.{arith}

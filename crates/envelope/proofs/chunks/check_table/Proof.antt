@@ -1,4 +1,4 @@
--- `envelope::chunks::check_table`: before chunk i none spoke.
+-- `envelope::chunks::check_table`: no check failed before chunk i.
 use mathlib.Core.Path.{_≡_, refl, sym, ap, ap₂, _∙_}
 use native.Mathlib.Omega.{arith}
 use Prim.Native.Nat.{_+_, _-_}

@@ -1,4 +1,4 @@
--- `index::pages::check_pages`: before page p none spoke.
+-- `index::pages::check_pages`: no check failed before page p.
 use mathlib.Core.Path.{_≡_, sym, ap, _∙_}
 use Prim.Native.Nat.{_+_, _-_, _≤_}
 use native.Mathlib.Nat.{sub-zero}

@@ -1,4 +1,4 @@
--- `index::layout::Layout::full`: 4,096 bytes hold so many entries.
+-- `index::layout::Layout::full`: the entries that 4,096 bytes hold.
 use Rattle.index_layout.specs.Layout.{full}
 use Rattle.index_layout.proofs.Laws.{per-page}
 use borrow.Author.Needs.{needs}
