@@ -1,12 +1,12 @@
 // Archive indexes.
 use crate::answer::entry_words;
 use crate::answer::layout_words;
+use crate::answer::numbered_words;
+use crate::answer::page_words;
 use crate::narrow::narrow_settings;
 use crossing::refused;
 use crossing::tell_bytes;
 use index_layout::FOOTER_SIZE;
-use index_layout::HASH_LENGTH;
-use index_layout::PAGE_SIZE;
 use index_open::Checked;
 use lookup::Answer;
 use lookup::Bounded;
@@ -67,16 +67,7 @@ pub extern "C" fn dwarnizza_index_entry(index: &[u8], number: u64, answer: &mut 
             1
         }
         index_entry::Answer::Found(e) => {
-            let page = e.page;
-            let slot = e.slot;
-            let at = e.key_at as u64;
-            let key_length = e.key_length as u64;
-            let size = e.size as u64;
-            let archive = e.archive as u64;
-            let offset = e.offset;
-            let p = page.0 as u64;
-            let i = slot.0 as u64;
-            *answer = [at, key_length, size, archive, offset, p, i, 0];
+            *answer = numbered_words(e);
             0
         }
     }
@@ -120,24 +111,7 @@ pub extern "C" fn dwarnizza_index_page(index: &[u8], page: u64, answer: &mut [u6
             1
         }
         index_page::Answer::Found(p) => {
-            let at = p.page_at as u64;
-            let last_key_at = p.last_key_at as u64;
-            let key_length = p.key_length as u64;
-            let hash_at = p.hash_at as u64;
-            let first = p.first_entry as u64;
-            let entries = p.entries as u64;
-            let size = PAGE_SIZE as u64;
-            let hash_length = HASH_LENGTH as u64;
-            *answer = [
-                at,
-                size,
-                last_key_at,
-                key_length,
-                hash_at,
-                hash_length,
-                first,
-                entries,
-            ];
+            *answer = page_words(p);
             0
         }
     }

@@ -1,6 +1,6 @@
 -- `dwarnizza::indexes::dwarnizza_index_entry`: what `index_entry::find` answers, laid out.
 use mathlib.Core.Path.{refl, sym, ap, _∙_}
-use Rattle.index_entry.specs.Entry.{values, outcome}
+use Rattle.index_entry.specs.Entry.{outcome}
 use Rattle.crossing.specs.Crossing.{result, answerWords}
 use borrow.Author.Needs.{needs}
 use Rattle.crossing.proofs.Laws.{crosses-as}
@@ -19,15 +19,11 @@ returns-2 c =
     let e = sym (ap outcome (c .before .enum-told .given .1)) ∙ c .before .before .before .find .ensures in
     crosses-as e (record { result-is = refl; words-are = refl })
 
-abbrev known : tie.After-answer2 → tie.After-e
-known c = c .before .before .before .before .before .before .before .before .before
-
 returns-3 : tie.Need-returns-3
-unfolding outcome values result answerWords
+unfolding outcome result
 returns-3 c =
-    let told = known c in
-    let e = sym (ap outcome (told .e .given .1)) ∙ told .before .before .find .ensures in
-    crosses-as e (record { result-is = refl; words-are = refl })
+    let e = sym (ap outcome (c .before .before .e .given .1)) ∙ c .before .before .before .before .find .ensures in
+    crosses-as e (record { result-is = refl; words-are = c .numbered-words .ensures })
 
 pub dwarnizza-index-entry-spec : {M : Type 1} → statement M
 dwarnizza-index-entry-spec =
@@ -38,11 +34,7 @@ dwarnizza-index-entry-spec =
     (λ c κs. search needs)
     (λ c. search needs)
     (λ c. search needs)
-    (λ c. search needs)
-    (λ c. search needs)
-    (λ c. search needs)
-    (λ c. search needs)
-    (λ c. search needs)
+    (λ c κs. search needs)
     returns
     returns-2
     returns-3)
