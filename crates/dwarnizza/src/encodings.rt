@@ -6,7 +6,7 @@ use encoding_lookup::EncodingFound;
 use encoding_lookup::SpecFound;
 ghost use mathlib.Core.Path.{_≡_};
 ghost use Rattle.encoding.specs.Check.{fullCheck};
-ghost use Rattle.encoding_lookup.specs.Lookup.{contentLookup, encodingLookup, specLookup};
+ghost use Rattle.encoding_lookup.specs.Lookup.{specOutcome, encodingOutcome, contentOutcome, contentLookup, encodingLookup, specLookup};
 ghost use Rattle.crossing.specs.Crossing.{Crosses, verdictOutcome};
 
 // The full check of an encoding file.
@@ -17,16 +17,11 @@ pub extern "C" fn dwarnizza_encoding_check(file: &[u8], answer: &mut [u64; 8]) -
     tell_verdict(encoding::check(file), answer)
 }
 
-// The lookup of a content key: decoded size, number of encoding keys, place and length of their run.
-#[no_mangle]
-pub extern "C" fn dwarnizza_encoding_find_content(
-    file: &[u8],
-    key: &[u8],
-    answer: &mut [u64; 8],
-) -> u32
-    ensures { λ r. ⌜ Crosses (contentLookup (now (file .entry)) (now (key .entry))) r (now (answer .exit)) ⌝ }
+// Lays out what a lookup of a content key answers.
+fn tell_content(told: ContentFound, answer: &mut [u64; 8]) -> u32
+    ensures { λ r. ⌜ Crosses (contentOutcome told) r (now (answer .exit)) ⌝ }
 {
-    match encoding_lookup::find_content(file, key) {
+    match told {
         ContentFound::Refused(r) => refused(r, answer),
         ContentFound::Absent => {
             *answer = [0u64; 8];
@@ -43,16 +38,23 @@ pub extern "C" fn dwarnizza_encoding_find_content(
     }
 }
 
-// The lookup of an encoding key: spec number, encoded size, place and length of the spec.
+// The lookup of a content key: decoded size, number of encoding keys, place and length of their run.
 #[no_mangle]
-pub extern "C" fn dwarnizza_encoding_find_encoding(
+pub extern "C" fn dwarnizza_encoding_find_content(
     file: &[u8],
     key: &[u8],
     answer: &mut [u64; 8],
 ) -> u32
-    ensures { λ r. ⌜ Crosses (encodingLookup (now (file .entry)) (now (key .entry))) r (now (answer .exit)) ⌝ }
+    ensures { λ r. ⌜ Crosses (contentLookup (now (file .entry)) (now (key .entry))) r (now (answer .exit)) ⌝ }
 {
-    match encoding_lookup::find_encoding(file, key) {
+    tell_content(encoding_lookup::find_content(file, key), answer)
+}
+
+// Lays out what a lookup of an encoding key answers.
+fn tell_encoding(told: EncodingFound, answer: &mut [u64; 8]) -> u32
+    ensures { λ r. ⌜ Crosses (encodingOutcome told) r (now (answer .exit)) ⌝ }
+{
+    match told {
         EncodingFound::Refused(r) => refused(r, answer),
         EncodingFound::Absent => {
             *answer = [0u64; 8];
@@ -69,12 +71,23 @@ pub extern "C" fn dwarnizza_encoding_find_encoding(
     }
 }
 
-// A spec by its number: its place and length.
+// The lookup of an encoding key: spec number, encoded size, place and length of the spec.
 #[no_mangle]
-pub extern "C" fn dwarnizza_encoding_spec(file: &[u8], number: u32, answer: &mut [u64; 8]) -> u32
-    ensures { λ r. ⌜ Crosses (specLookup (now (file .entry)) number) r (now (answer .exit)) ⌝ }
+pub extern "C" fn dwarnizza_encoding_find_encoding(
+    file: &[u8],
+    key: &[u8],
+    answer: &mut [u64; 8],
+) -> u32
+    ensures { λ r. ⌜ Crosses (encodingLookup (now (file .entry)) (now (key .entry))) r (now (answer .exit)) ⌝ }
 {
-    match encoding_lookup::find_spec(file, number) {
+    tell_encoding(encoding_lookup::find_encoding(file, key), answer)
+}
+
+// Lays out what a spec answers.
+fn tell_spec(told: SpecFound, answer: &mut [u64; 8]) -> u32
+    ensures { λ r. ⌜ Crosses (specOutcome told) r (now (answer .exit)) ⌝ }
+{
+    match told {
         SpecFound::Refused(r) => refused(r, answer),
         SpecFound::Found(s) => {
             let at = s.at as u64;
@@ -83,4 +96,12 @@ pub extern "C" fn dwarnizza_encoding_spec(file: &[u8], number: u32, answer: &mut
             0
         }
     }
+}
+
+// A spec by its number: its place and length.
+#[no_mangle]
+pub extern "C" fn dwarnizza_encoding_spec(file: &[u8], number: u32, answer: &mut [u64; 8]) -> u32
+    ensures { λ r. ⌜ Crosses (specLookup (now (file .entry)) number) r (now (answer .exit)) ⌝ }
+{
+    tell_spec(encoding_lookup::find_spec(file, number), answer)
 }

@@ -24,21 +24,32 @@ ghost use Rattle.index_file.specs.File.{fileOf};
 ghost use Rattle.writer.specs.Write.{layoutFor, writeCheck, writeOutcome, lengthOutcome};
 ghost use Rattle.list_entry.specs.Put.{locationOf, entryBytes, putCheck, putOutcome};
 ghost use Rattle.listing.specs.Listing.{textOf, listingCheck, listingOutcome, fitted};
+ghost use Rattle.index_entry.specs.Entry as entries;
+ghost use Rattle.index_page.specs.Page as pages;
+ghost use Rattle.lookup.specs.Lookup as lookups;
+ghost use Rattle.index_open.specs.Open as layouts;
 ghost use Rattle.crossing.specs.Crossing.{Crosses, testOutcome};
 ghost use Rattle.dwarnizza.specs.Indexes.{settingsFrom, footerOutcome};
 
-// The full check: version, offset width, key length, entries and pages.
-#[no_mangle]
-pub extern "C" fn dwarnizza_index_check(index: &[u8], answer: &mut [u64; 8]) -> u32
-    ensures { λ r. ⌜ Crosses (checkOutcome (now (index .entry))) r (now (answer .exit)) ⌝ }
+// Lays out what a check that tells a layout answers.
+fn tell_layout(told: Checked, answer: &mut [u64; 8]) -> u32
+    ensures { λ r. ⌜ Crosses (layouts.outcome told) r (now (answer .exit)) ⌝ }
 {
-    match index::check(index) {
+    match told {
         Checked::Refused(r) => refused(r, answer),
         Checked::Passed(l) => {
             *answer = layout_words(l);
             0
         }
     }
+}
+
+// The full check: version, offset width, key length, entries and pages.
+#[no_mangle]
+pub extern "C" fn dwarnizza_index_check(index: &[u8], answer: &mut [u64; 8]) -> u32
+    ensures { λ r. ⌜ Crosses (checkOutcome (now (index .entry))) r (now (answer .exit)) ⌝ }
+{
+    tell_layout(index::check(index), answer)
 }
 
 // What the footer says, by 1 to 5 alone: version, offset width, key length, entries and pages.
@@ -46,21 +57,14 @@ pub extern "C" fn dwarnizza_index_check(index: &[u8], answer: &mut [u64; 8]) -> 
 pub extern "C" fn dwarnizza_index_settings(index: &[u8], answer: &mut [u64; 8]) -> u32
     ensures { λ r. ⌜ Crosses (openOutcome (now (index .entry))) r (now (answer .exit)) ⌝ }
 {
-    match index_open::open(index) {
-        Checked::Refused(r) => refused(r, answer),
-        Checked::Passed(l) => {
-            *answer = layout_words(l);
-            0
-        }
-    }
+    tell_layout(index_open::open(index), answer)
 }
 
-// The entry of a number: place of the key, its length, size, archive number, offset, page and slot.
-#[no_mangle]
-pub extern "C" fn dwarnizza_index_entry(index: &[u8], number: u64, answer: &mut [u64; 8]) -> u32
-    ensures { λ r. ⌜ Crosses (entryOutcome (now (index .entry)) number) r (now (answer .exit)) ⌝ }
+// Lays out what an entry by its number answers.
+fn tell_entry(told: index_entry::Answer, answer: &mut [u64; 8]) -> u32
+    ensures { λ r. ⌜ Crosses (entries.outcome told) r (now (answer .exit)) ⌝ }
 {
-    match index_entry::find(index, number) {
+    match told {
         index_entry::Answer::Refused(r) => refused(r, answer),
         index_entry::Answer::Absent => {
             *answer = [0u64; 8];
@@ -71,6 +75,14 @@ pub extern "C" fn dwarnizza_index_entry(index: &[u8], number: u64, answer: &mut 
             0
         }
     }
+}
+
+// The entry of a number: place of the key, its length, size, archive number, offset, page and slot.
+#[no_mangle]
+pub extern "C" fn dwarnizza_index_entry(index: &[u8], number: u64, answer: &mut [u64; 8]) -> u32
+    ensures { λ r. ⌜ Crosses (entryOutcome (now (index .entry)) number) r (now (answer .exit)) ⌝ }
+{
+    tell_entry(index_entry::find(index, number), answer)
 }
 
 // What the footer says, by 1 to 4 alone: version, offset width, key length, entries, pages, the length of the whole file and that
@@ -99,12 +111,11 @@ pub extern "C" fn dwarnizza_index_loose(index: &[u8], answer: &mut [u64; 8]) -> 
     if index_open::is_loose(index) { 0 } else { 1 }
 }
 
-// A page: place and length of the page, of its last key and of its hash, its first entry, and how many it has.
-#[no_mangle]
-pub extern "C" fn dwarnizza_index_page(index: &[u8], page: u64, answer: &mut [u64; 8]) -> u32
-    ensures { λ r. ⌜ Crosses (pageOutcome (now (index .entry)) page) r (now (answer .exit)) ⌝ }
+// Lays out what a page answers.
+fn tell_page(told: index_page::Answer, answer: &mut [u64; 8]) -> u32
+    ensures { λ r. ⌜ Crosses (pages.outcome told) r (now (answer .exit)) ⌝ }
 {
-    match index_page::find(index, index_page::page_of(page)) {
+    match told {
         index_page::Answer::Refused(r) => refused(r, answer),
         index_page::Answer::Absent => {
             *answer = [0u64; 8];
@@ -115,6 +126,14 @@ pub extern "C" fn dwarnizza_index_page(index: &[u8], page: u64, answer: &mut [u6
             0
         }
     }
+}
+
+// A page: place and length of the page, of its last key and of its hash, its first entry, and how many it has.
+#[no_mangle]
+pub extern "C" fn dwarnizza_index_page(index: &[u8], page: u64, answer: &mut [u64; 8]) -> u32
+    ensures { λ r. ⌜ Crosses (pageOutcome (now (index .entry)) page) r (now (answer .exit)) ⌝ }
+{
+    tell_page(index_page::find(index, index_page::page_of(page)), answer)
 }
 
 // The list of a checked index: the bytes written.
@@ -130,12 +149,11 @@ pub extern "C" fn dwarnizza_index_list(
     tell_bytes(entries::list(index, output), answer)
 }
 
-// The lookup of a key: page, slot, size, location and comparisons; of an absent key, the comparisons.
-#[no_mangle]
-pub extern "C" fn dwarnizza_index_lookup(index: &[u8], key: &[u8], answer: &mut [u64; 8]) -> u32
-    ensures { λ r. ⌜ Crosses (lookupOf (now (index .entry)) (now (key .entry))) r (now (answer .exit)) ⌝ }
+// Lays out what a lookup answers.
+fn tell_lookup(told: Answer, answer: &mut [u64; 8]) -> u32
+    ensures { λ r. ⌜ Crosses (lookups.outcome told) r (now (answer .exit)) ⌝ }
 {
-    match lookup::lookup(index, key) {
+    match told {
         Answer::Refused(r) => refused(r, answer),
         Answer::Absent(n) => {
             *answer = [0, 0, 0, 0, n as u64, 0, 0, 0];
@@ -148,18 +166,33 @@ pub extern "C" fn dwarnizza_index_lookup(index: &[u8], key: &[u8], answer: &mut 
     }
 }
 
-// The most stored keys that a lookup in an index compares.
+// The lookup of a key: page, slot, size, location and comparisons; of an absent key, the comparisons.
 #[no_mangle]
-pub extern "C" fn dwarnizza_index_bound(index: &[u8], answer: &mut [u64; 8]) -> u32
-    ensures { λ r. ⌜ Crosses (boundOf (now (index .entry))) r (now (answer .exit)) ⌝ }
+pub extern "C" fn dwarnizza_index_lookup(index: &[u8], key: &[u8], answer: &mut [u64; 8]) -> u32
+    ensures { λ r. ⌜ Crosses (lookupOf (now (index .entry)) (now (key .entry))) r (now (answer .exit)) ⌝ }
 {
-    match lookup::bound(index) {
+    tell_lookup(lookup::lookup(index, key), answer)
+}
+
+// Lays out what a bound answers.
+fn tell_bound(told: Bounded, answer: &mut [u64; 8]) -> u32
+    ensures { λ r. ⌜ Crosses (lookups.boundOutcome told) r (now (answer .exit)) ⌝ }
+{
+    match told {
         Bounded::Refused(r) => refused(r, answer),
         Bounded::Comparisons(n) => {
             *answer = [n as u64, 0, 0, 0, 0, 0, 0, 0];
             0
         }
     }
+}
+
+// The most stored keys that a lookup in an index compares.
+#[no_mangle]
+pub extern "C" fn dwarnizza_index_bound(index: &[u8], answer: &mut [u64; 8]) -> u32
+    ensures { λ r. ⌜ Crosses (boundOf (now (index .entry))) r (now (answer .exit)) ⌝ }
+{
+    tell_bound(lookup::bound(index), answer)
 }
 
 // Writes the index of a list: the bytes written.

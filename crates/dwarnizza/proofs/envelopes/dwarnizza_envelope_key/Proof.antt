@@ -1,5 +1,5 @@
 -- `dwarnizza::envelopes::dwarnizza_envelope_key`: the key where it passes.
-use mathlib.Core.Path.{_≡_, sym, ap, _∙_}
+use mathlib.Core.Path.{sym, ap, _∙_}
 use Rattle.envelope.specs.Envelope.{envelopeKey}
 use Rattle.dwarnizza.specs.Envelopes.{keyAfter}
 use Rattle.refusal.proofs.Laws.{refused-is, passed-is}

@@ -1,34 +1,15 @@
 -- `dwarnizza::file_numbers::dwarnizza_resolve`: what `chain::resolve` answers, laid out.
-use mathlib.Core.Path.{refl, sym, ap, _∙_}
-use Rattle.chain.specs.Chain.{told}
+use mathlib.Core.Path.{ap}
 use borrow.Author.Needs.{needs}
-use Rattle.crossing.specs.Crossing.{result, answerWords}
 use Rattle.crossing.proofs.Laws.{crosses-beside}
 use Rattle.dwarnizza.specs.FileNumbers.{chainOutcome, refusingLink}
 use Rattle.dwarnizza.proofs.file_numbers.dwarnizza_resolve.Statement.{statement}
 use Rattle.dwarnizza.proofs.file_numbers.dwarnizza_resolve.Tie as tie
 
 returns : tie.Need-returns
-unfolding told chainOutcome refusingLink
 returns c =
-    let at = c .before .before in
-    let e = sym (ap told (at .before .before .link .given .1)) ∙ at .before .before .before .before .resolve .ensures in
-    crosses-beside (at .number .ensures ∙ ap refusingLink e) (ap chainOutcome e) (c .refused-beside .ensures)
-
-returns-2 : tie.Need-returns-2
-unfolding told chainOutcome refusingLink result answerWords
-returns-2 c =
-    let e = sym (ap told (c .before .before .before .link2 .given .1)) ∙ c .before .before .before .before .before .resolve .ensures in
-    crosses-beside (ap refusingLink e) (ap chainOutcome e) (record { result-is = refl; words-are = rw (c .before .number2 .ensures) refl })
-
-returns-3 : tie.Need-returns-3
-unfolding told chainOutcome refusingLink result answerWords
-returns-3 c =
-    let e = sym (ap told (c .before .before .e .given .1)) ∙ c .before .before .before .before .resolve .ensures in
-    crosses-beside (ap refusingLink e) (ap chainOutcome e) (record { result-is = refl; words-are = c .entry-words .ensures })
+    let e = c .before .before .resolve .ensures in
+    crosses-beside (ap refusingLink e) (ap chainOutcome e) (c .tell-resolved .ensures)
 
 pub dwarnizza-resolve-spec : {M : Type 1} → statement M
-dwarnizza-resolve-spec =
-    tie.close
-    (tie.spec (λ c κs. search needs) (λ c. search needs) (λ c κs. search needs) (λ c κs. search needs) (λ c. search needs)
-    (λ c κs. search needs) (λ c. search needs) (λ c. search needs) (λ c. search needs) (λ c κs. search needs) returns returns-2 returns-3)
+dwarnizza-resolve-spec = tie.close (tie.spec (λ c κs. search needs) (λ c κs. search needs) returns)

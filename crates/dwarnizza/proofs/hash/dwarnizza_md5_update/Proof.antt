@@ -1,5 +1,5 @@
 -- `dwarnizza::dwarnizza_md5_update`: what `update` answers, laid out.
-use mathlib.Core.Path.{_≡_, refl, sym, ap, _∙_}
+use mathlib.Core.Path.{_≡_, sym, ap, _∙_}
 use mathlib.Core.Bool.{true, false}
 use Prim.Native.Nat.{_+_}
 use lib.ListN.{length}

@@ -1,5 +1,5 @@
 -- `dwarnizza::indexes::dwarnizza_index_footer`: what `index_open::read_footer` answers, laid out with the lengths.
-use mathlib.Core.Path.{refl, _≡_, sym, ap, _∙_}
+use mathlib.Core.Path.{refl, sym, ap, _∙_}
 use mathlib.Core.List.{[], _∷_, _++_}
 use Rattle.refusal.specs.Outcome.{answered}
 use Rattle.refusal.proofs.Laws.{after-said, after-quiet}

@@ -1,5 +1,5 @@
 -- `dwarnizza::keys::dwarnizza_key_text`: what `key::from_text` answers, laid out.
-use mathlib.Core.Path.{refl, _≡_, sym, ap, _∙_}
+use mathlib.Core.Path.{_≡_, refl, sym, ap, _∙_}
 use mathlib.Core.List.{List, [], _∷_}
 use Prim.Native.Nat.{ℕ}
 use lib.ListN.{length}
