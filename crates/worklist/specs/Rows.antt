@@ -33,8 +33,11 @@ lf = 10
 -- ---- separator and line end
 
 -- A separator is a byte, and no quote, CR or LF (rule D1).
+abbrev pub mostSeparator : ℕ
+mostSeparator = 255
+
 unfoldable pub noSeparator : (sep : ℕ) → Bool
-noSeparator sep = ltb 255 sep || (eqb sep quote || (eqb sep cr || eqb sep lf))
+noSeparator sep = ltb mostSeparator sep || (eqb sep quote || (eqb sep cr || eqb sep lf))
 
 abbrev pub separatorCheck : (sep : ℕ) → Check
 separatorCheck sep = refusedIf (noSeparator sep) settings 0
