@@ -18,7 +18,9 @@ module _ (c : tie.After-update) where
   message = c .before .before .before .before .before .args .message .now
 
   judged : checkOf (c .update .result .verdict) ≡ limited (length message)
-  judged = c .update .ensures .0 ∙ ap limited (whole message _ _ _ (c .before .before .hash-parts .ensures) (c .before .part .ensures .0) (c .update .ensures .1))
+  judged =
+      c .update .ensures .0
+      ∙ ap limited (whole message _ _ _ (c .before .before .hash-parts .ensures) (c .before .part .ensures .0) (c .update .ensures .1))
 
 returns : tie.Need-returns
 returns c =
@@ -30,7 +32,8 @@ returns-2 : tie.Need-returns-2
 returns-2 c =
     let u = c .before .before .before in
     let fits = silent-test (tooLong (length (message u))) hash-limit 0 (passed-is _ _ (judged u) (c .before .enum-told2 .given .1)) in
-    (judged u, c .finish .ensures ∙ digest (message u) _ _ _ (u .before .before .hash-parts .ensures) (u .before .part .ensures .0) (u .update .ensures .1) fits)
+    let whole-digest = digest (message u) _ _ _ (u .before .before .hash-parts .ensures) (u .before .part .ensures .0) (u .update .ensures .1) fits in
+    (judged u, c .finish .ensures ∙ whole-digest)
 
 pub digest-of-parts-spec : {M : Type 1} → statement M
 digest-of-parts-spec =
