@@ -7,7 +7,7 @@ use Rattle.refusal.specs.Outcome.{Outcome, answered, absent, refusal}
 use Rattle.root.specs.Lookup as rootFile
 use Rattle.encoding_header.specs.Header.{headerOf, opening}
 use Rattle.encoding_lookup.specs.Lookup.{contentLookup, partAfter, encodingKeys}
-use Rattle.lookup.specs.Lookup as indexFile
+use Rattle.index_lookup.specs.Lookup as indexFile
 use Rattle.chain.specs.declared.Link.{Link}
 use Rattle.chain.specs.declared.Link.the-variants.{Root, Encoding, Index}
 use Rattle.chain.specs.declared.Resolved as resolved

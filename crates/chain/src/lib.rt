@@ -3,7 +3,7 @@
 use encoding_header::Opened;
 use encoding_lookup::ContentFound;
 use encoding_lookup::find_content;
-use lookup::Entry;
+use index_lookup::Entry;
 use parts::part;
 use refusal::Refusal;
 ghost use mathlib.Core.Path.{_≡_};
@@ -51,10 +51,10 @@ fn first_key(encoding: &[u8], at: usize, length: usize) -> &[u8]
 fn resolve_encoding_key(index: &[u8], key: &[u8]) -> Resolved
     ensures { λ r. ⌜ spec.told r ≡ spec.indexTold (now (index .entry)) (now (key .entry)) ⌝ }
 {
-    match lookup::lookup(index, key) {
-        lookup::Answer::Refused(r) => Resolved::Refused(Link::Index, r),
-        lookup::Answer::Absent(compared) => Resolved::Absent(Link::Index, compared),
-        lookup::Answer::Found(entry) => Resolved::Found(entry),
+    match index_lookup::lookup(index, key) {
+        index_lookup::Answer::Refused(r) => Resolved::Refused(Link::Index, r),
+        index_lookup::Answer::Absent(compared) => Resolved::Absent(Link::Index, compared),
+        index_lookup::Answer::Found(entry) => Resolved::Found(entry),
     }
 }
 

@@ -25,9 +25,9 @@ use Rattle.encoding_agreement.proofs.Agreement.{content-agrees}
 use Rattle.index_layout.specs.Layout.{layoutOf}
 use Rattle.index_open.proofs.Laws.{passed-index}
 use Rattle.index.specs.Check as indexFile
-use Rattle.agreement.specs.Plain as entries
-use Rattle.agreement.specs.Plain.{withCount}
-use Rattle.agreement.proofs.Demand3 as demand3
+use Rattle.index_agreement.specs.Plain as entries
+use Rattle.index_agreement.specs.Plain.{withCount}
+use Rattle.index_agreement.proofs.LookupAgrees as agreement
 use Rattle.chain.specs.declared.Link.{Link}
 use Rattle.chain.specs.declared.Link.the-variants.{Root, Encoding, Index}
 use Rattle.chain.specs.Chain.{Told, found, refusedAt, linked, contentKey, encodingKey, indexTold, encodingTold, resolve}
@@ -93,7 +93,7 @@ module _ {root encoding index : List ℕ} (c : Fit root encoding index) where
 
   index-same : (key : List ℕ) → length key ≡ layoutOf index .«key_length» → indexTold index key ≡ plainIndexTold index key
   unfolding indexTold plainIndexTold
-  index-same key size = ap (λ o. linked Index o found) (demand3.agrees index key (c .index-passes) size .answer)
+  index-same key size = ap (λ o. linked Index o found) (agreement.agrees index key (c .index-passes) size .answer)
 
   -- the encoding file, then the index
 

@@ -7,8 +7,8 @@ use Rattle.refusal.specs.Outcome.{Outcome}
 use Rattle.root.specs.Lookup.{records, wanted, foundIn, keyAt}
 use Rattle.encoding_header.specs.Header.{headerOf}
 use Rattle.encoding_agreement.specs.Plain.{plainContent}
-use Rattle.agreement.specs.Plain.{plainReading, withCount}
-use Rattle.agreement.specs.Demand3.{comparisons}
+use Rattle.index_agreement.specs.Plain.{plainReading, withCount}
+use Rattle.index_agreement.specs.LookupAgrees.{comparisons}
 use Rattle.chain.specs.declared.Link.the-variants.{Root, Encoding, Index}
 use Rattle.chain.specs.Chain.{Told, found, linked}
 

@@ -8,18 +8,18 @@ use native.Mathlib.Omega.{arith}
 use lib.Dec.{ltb}
 use borrow.Author.Tests.{ltb-true, ltb-false}
 use Rattle.parts.proofs.Laws.{by-test}
-use Rattle.field.specs.Number.{within}
-use Rattle.field.proofs.Laws.{within-outside, within-range}
+use Rattle.numbers.specs.Number.{within}
+use Rattle.numbers.proofs.Laws.{within-outside, within-range}
 use Rattle.refusal.specs.Check.{refusedIf, first}
 use Rattle.refusal.specs.Outcome.{refusal, after}
 use Rattle.refusal.specs.Output.{filled}
 use Rattle.refusal.specs.Number.{settings}
 use Rattle.index_layout.specs.Layout.{leastVersion, mostVersion, leastOffsetWidth, mostOffsetWidth, leastKeyLength, mostKeyLength}
 use Rattle.index_file.specs.File.{fileOf}
-use Rattle.writer.specs.declared.Settings.{Settings}
-use Rattle.writer.specs.Write.{layoutFor, settingsRight, inputCheck, writeCheck, writeOutcome, lengthOutcome}
-use Rattle.writer.proofs.Passed.{right}
-use Rattle.list_entry.specs.Put.{putCheck, putOutcome, entryBytes}
+use Rattle.index_writer.specs.declared.Settings.{Settings}
+use Rattle.index_writer.specs.Write.{layoutFor, settingsRight, inputCheck, writeCheck, writeOutcome, lengthOutcome}
+use Rattle.index_writer.proofs.Passed.{right}
+use Rattle.index_list_entry.specs.Put.{putCheck, putOutcome, entryBytes}
 use Rattle.key_text.specs.Text.{textCheck, textBytes}
 use Rattle.dwarnizza.specs.Indexes.{settingsFrom}
 use Rattle.dwarnizza.specs.Keys.{textOutcome}

@@ -4,7 +4,7 @@ use Prim.Native.Nat.{ℕ}
 use Rattle.refusal.specs.Outcome.{Outcome, answered, after}
 use Rattle.index_layout.specs.Layout.{footerSize, indexLength, layoutOf}
 use Rattle.index_open.specs.Open.{footerReading, layoutValues}
-use Rattle.writer.specs.declared.Settings.{Settings}
+use Rattle.index_writer.specs.declared.Settings.{Settings}
 
 -- The settings of an index, of three numbers.
 abbrev pub settingsFrom : (version offsetWidth keyLength : ℕ) → Settings

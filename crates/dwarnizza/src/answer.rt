@@ -2,7 +2,7 @@
 use index_layout::HASH_LENGTH;
 use index_layout::Layout;
 use index_layout::PAGE_SIZE;
-use lookup::Entry;
+use index_lookup::Entry;
 ghost use mathlib.Core.Path.{_≡_};
 ghost use mathlib.Core.List.{_∷_};
 ghost use lib.ListN.{replicate};

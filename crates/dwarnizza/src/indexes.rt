@@ -7,9 +7,9 @@ use crate::narrow::narrow_settings;
 use crossing::refused;
 use crossing::tell_bytes;
 use index_layout::FOOTER_SIZE;
+use index_lookup::Answer;
+use index_lookup::Bounded;
 use index_open::Checked;
-use lookup::Answer;
-use lookup::Bounded;
 ghost use mathlib.Core.Path.{_≡_};
 ghost use lib.ListN.{length};
 ghost use Rattle.refusal.specs.Output.{filled};
@@ -18,15 +18,15 @@ ghost use Rattle.index.specs.Check.{checkOutcome};
 ghost use Rattle.index_entry.specs.Entry.{entryOutcome};
 ghost use Rattle.index_page.specs.Page.{pageOutcome};
 ghost use Rattle.index_layout.specs.Entries.{listOf};
-ghost use Rattle.entries.specs.List.{listCheck, listOutcome};
-ghost use Rattle.lookup.specs.Lookup.{lookupOf, boundOf};
+ghost use Rattle.index_list.specs.List.{listCheck, listOutcome};
+ghost use Rattle.index_lookup.specs.Lookup.{lookupOf, boundOf};
 ghost use Rattle.index_file.specs.File.{fileOf};
-ghost use Rattle.writer.specs.Write.{layoutFor, writeCheck, writeOutcome, lengthOutcome};
-ghost use Rattle.list_entry.specs.Put.{locationOf, entryBytes, putCheck, putOutcome};
+ghost use Rattle.index_writer.specs.Write.{layoutFor, writeCheck, writeOutcome, lengthOutcome};
+ghost use Rattle.index_list_entry.specs.Put.{locationOf, entryBytes, putCheck, putOutcome};
 ghost use Rattle.listing.specs.Listing.{textOf, listingCheck, listingOutcome, fitted};
 ghost use Rattle.index_entry.specs.Entry as entries;
 ghost use Rattle.index_page.specs.Page as pages;
-ghost use Rattle.lookup.specs.Lookup as lookups;
+ghost use Rattle.index_lookup.specs.Lookup as lookups;
 ghost use Rattle.index_open.specs.Open as layouts;
 ghost use Rattle.crossing.specs.Crossing.{Crosses, testOutcome};
 ghost use Rattle.dwarnizza.specs.Indexes.{settingsFrom, footerOutcome};
@@ -146,7 +146,7 @@ pub extern "C" fn dwarnizza_index_list(
     ensures { λ r. ⌜ Crosses (listOutcome (now (index .entry)) (length (now (output .entry)))) r (now (answer .exit)) ⌝ }
     ensures { λ _. ⌜ now (output .exit) ≡ filled (listCheck (now (index .entry)) (length (now (output .entry)))) (listOf (now (index .entry))) (now (output .entry)) ⌝ }
 {
-    tell_bytes(entries::list(index, output), answer)
+    tell_bytes(index_list::list(index, output), answer)
 }
 
 // Lays out what a lookup answers.
@@ -171,7 +171,7 @@ fn tell_lookup(told: Answer, answer: &mut [u64; 8]) -> u32
 pub extern "C" fn dwarnizza_index_lookup(index: &[u8], key: &[u8], answer: &mut [u64; 8]) -> u32
     ensures { λ r. ⌜ Crosses (lookupOf (now (index .entry)) (now (key .entry))) r (now (answer .exit)) ⌝ }
 {
-    tell_lookup(lookup::lookup(index, key), answer)
+    tell_lookup(index_lookup::lookup(index, key), answer)
 }
 
 // Lays out what a bound answers.
@@ -192,7 +192,7 @@ fn tell_bound(told: Bounded, answer: &mut [u64; 8]) -> u32
 pub extern "C" fn dwarnizza_index_bound(index: &[u8], answer: &mut [u64; 8]) -> u32
     ensures { λ r. ⌜ Crosses (boundOf (now (index .entry))) r (now (answer .exit)) ⌝ }
 {
-    tell_bound(lookup::bound(index), answer)
+    tell_bound(index_lookup::bound(index), answer)
 }
 
 // Writes the index of a list: the bytes written.
@@ -209,7 +209,7 @@ pub extern "C" fn dwarnizza_index_write(
     ensures { λ _. ⌜ now (output .exit) ≡ filled (writeCheck (settingsFrom version «offset_width» «key_length») (now (list .entry)) (length (now (output .entry)))) (fileOf (now (list .entry)) (layoutFor (settingsFrom version «offset_width» «key_length») (now (list .entry)))) (now (output .entry)) ⌝ }
 {
     let settings = narrow_settings(version, offset_width, key_length);
-    tell_bytes(writer::write(settings, list, output), answer)
+    tell_bytes(index_writer::write(settings, list, output), answer)
 }
 
 // The length of the file that a list gives.
@@ -224,7 +224,7 @@ pub extern "C" fn dwarnizza_index_written_length(
     ensures { λ r. ⌜ Crosses (lengthOutcome (settingsFrom version «offset_width» «key_length») (now (list .entry))) r (now (answer .exit)) ⌝ }
 {
     let settings = narrow_settings(version, offset_width, key_length);
-    tell_bytes(writer::written_length(settings, list), answer)
+    tell_bytes(index_writer::written_length(settings, list), answer)
 }
 
 // Puts one entry of a list: the bytes written.
@@ -245,7 +245,7 @@ pub extern "C" fn dwarnizza_list_put(
 {
     let settings = narrow_settings(version, offset_width, key_length);
     tell_bytes(
-        list_entry::put_entry(settings, key, size, archive, offset, output),
+        index_list_entry::put_entry(settings, key, size, archive, offset, output),
         answer,
     )
 }

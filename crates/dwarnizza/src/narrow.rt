@@ -1,6 +1,6 @@
 // Settings, whose numbers C gives in 32 bits.
 use crossing::narrow;
-use writer::Settings;
+use index_writer::Settings;
 ghost use mathlib.Core.Path.{_≡_};
 ghost use Prim.Native.Nat.{min};
 ghost use Rattle.dwarnizza.specs.Indexes.{settingsFrom};

@@ -6,7 +6,7 @@ use Prim.Native.Nat.{ℕ, _+_}
 use lib.Dec.{ltb}
 use lib.ListN.{length, take, getD}
 use Rattle.parts.specs.Part.{byteAt, sameBytes, partsFrom}
-use Rattle.field.specs.Number.{bigAt}
+use Rattle.numbers.specs.Number.{bigAt}
 use Rattle.refusal.specs.Number.{spec-number}
 use Rattle.refusal.specs.Outcome.{Outcome, answered, absent, refusal}
 use Rattle.spec_table.specs.Specs.{runOf, strings}

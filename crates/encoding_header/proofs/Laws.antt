@@ -10,8 +10,8 @@ use lib.Dec.{eqb, ltb}
 use lib.ListN.{length}
 use Rattle.parts.specs.Part.{byteAt}
 use Rattle.parts.proofs.Laws.{both, partAt-inside, partAt-byte}
-use Rattle.field.specs.Number.{within}
-use Rattle.field.proofs.Laws.{within-range}
+use Rattle.numbers.specs.Number.{within}
+use Rattle.numbers.proofs.Laws.{within-range}
 use Rattle.refusal.specs.declared.Refusal.{Refusal}
 use Rattle.refusal.specs.Check.{Check, silent, refused}
 use Rattle.refusal.specs.Number.{encoding-header, encoding-cut, spec-table-open}

@@ -5,7 +5,7 @@ use Prim.Native.Nat.{ℕ, _+_, _-_, _*_}
 use lib.Dec.{ltb, leb, eqb}
 use lib.ListN.{length}
 use Rattle.parts.specs.Part.{byteAt, partAt, sameBytes}
-use Rattle.field.specs.Number.{bigAt, within}
+use Rattle.numbers.specs.Number.{bigAt, within}
 use Rattle.refusal.specs.Check.{Check, refusedIf, first}
 use Rattle.refusal.specs.Number.{not-encoding, encoding-header, encoding-cut, spec-table-open}
 use Rattle.refusal.specs.Outcome.{Outcome, answered, refusal, after}

@@ -1,7 +1,7 @@
 // The header of an encoding file: refusals 30 to 33, and where its parts stand. Every value of a header is answered for: the
 // types keep each sum and product within its range. specs/Header.antt has the same names, as that language writes them.
-use field::big;
-use field::within;
+use numbers::big;
+use numbers::within;
 use parts::byte;
 use parts::equal;
 use parts::part;

@@ -6,7 +6,7 @@ use Prim.Native.Nat.{ℕ, zero, suc, _+_, _-_, _≤_, _<_}
 use native.Mathlib.Nat.{le-refl, not-suc-le-zero}
 use native.Mathlib.Omega.{arith}
 use Rattle.parts.specs.Part.{partAt}
-use Rattle.field.specs.Number.{bigAt}
+use Rattle.numbers.specs.Number.{bigAt}
 use Rattle.key.specs.Order.{compared, isBelow, isAbove}
 use Rattle.key.proofs.Laws.{Bytes, above-is-below, above-of-bigAt, part-bytes, part-number}
 use Rattle.encoding_header.specs.declared.Kind.{Kind}

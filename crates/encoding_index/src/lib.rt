@@ -3,7 +3,7 @@
 use encoding_header::Header;
 use encoding_header::Kind;
 use encoding_header::first_key;
-use field::big;
+use numbers::big;
 ghost use mathlib.Core.Path.{_≡_};
 ghost use Rattle.encoding_index.specs.Chosen as spec;
 

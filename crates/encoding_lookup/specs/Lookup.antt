@@ -5,7 +5,7 @@ use Prim.Native.Nat.{ℕ, zero, suc, _+_, _*_}
 use lib.Dec.{ltb, eqb}
 use lib.ListN.{length, getD}
 use Rattle.parts.specs.Part.{byteAt, partAt}
-use Rattle.field.specs.Number.{bigAt}
+use Rattle.numbers.specs.Number.{bigAt}
 use Rattle.refusal.specs.Check.{Check, silent, refused, refusedIf, first}
 use Rattle.refusal.specs.Number.{encoding-key-length, entry-over-page, spec-number}
 use Rattle.refusal.specs.Outcome.{Outcome, answered, absent, refusal, after}

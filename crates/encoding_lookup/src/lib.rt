@@ -12,7 +12,7 @@ use encoding_page::SPEC_WIDTH;
 use encoding_page::Search;
 use encoding_page::find;
 use encoding_page::over;
-use field::big;
+use numbers::big;
 use parts::byte;
 use parts::part;
 use refusal::ENCODING_KEY_LENGTH;

@@ -5,7 +5,7 @@ use mathlib.Core.List.{List, [], _∷_}
 use Prim.Native.Nat.{ℕ, zero, suc, _+_, _-_, _*_}
 use lib.Dec.{ltb, eqb}
 use Rattle.parts.specs.Part.{byteAt, partAt, sameBytes, allZero}
-use Rattle.field.specs.Number.{bigAt}
+use Rattle.numbers.specs.Number.{bigAt}
 use Rattle.key.specs.Order.{compared, isBelow}
 use Rattle.encoding_header.specs.declared.Kind.{Kind}
 use Rattle.encoding_header.specs.declared.Kind.the-variants.{Content, Encoding}

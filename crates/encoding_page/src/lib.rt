@@ -2,7 +2,7 @@
 // offset in the file. specs/Entries.antt has the names of the constants as that language writes them.
 use encoding_header::Header;
 use encoding_header::Kind;
-use field::big;
+use numbers::big;
 use parts::all_zero;
 use parts::byte;
 use parts::equal;

@@ -4,7 +4,7 @@ use mathlib.Core.List.{List}
 use Prim.Native.Nat.{ℕ}
 use lib.ListN.{replicate}
 use Rattle.parts.specs.Part.{overlay, sameBytes, allZero, partsFrom}
-use Rattle.field.specs.Number.{bigAt, within}
+use Rattle.numbers.specs.Number.{bigAt, within}
 use Rattle.key.specs.Order.{compared, decided}
 use Rattle.md5_block.specs.Block.{addends, shifts, mixed, wordNumber, turned, step, steps, word, wordsOf, sum, block, blocks}
 use Rattle.md5.specs.Message.{littleBytes, padding as md5Padding, initial, digestOf, md5}

@@ -11,7 +11,7 @@ use lib.ListN.{length, take, drop, replicate, length-append, length-take, length
 use borrow.Author.Tests.{eqb-true, eqb-false, not-false, lt-ltb, le-ltb, eq-eqb, ne-eqb}
 use Rattle.parts.specs.Part.{byteAt, partAt, sameBytes, partsFrom}
 use Rattle.parts.proofs.Laws.{partAt-length, partAt-inside}
-use Rattle.field.proofs.Laws.{bigAt-below}
+use Rattle.numbers.proofs.Laws.{bigAt-below}
 use Rattle.md5_end.proofs.EndLaws.{little-length}
 use Rattle.md5.specs.Message.{digestOf, md5, digestOr0, limited}
 use Rattle.md5.proofs.MessageLaws.{short-hashed}

@@ -11,8 +11,8 @@ use lib.Dec.{eqb}
 use lib.ListN.{length}
 use borrow.Author.Tests.{eq-eqb, ne-eqb, eqb-true, not-false}
 use Rattle.parts.specs.Part.{byteAt}
-use Rattle.field.specs.Number.{bigAt}
-use Rattle.field.proofs.Laws.{bigAt-below}
+use Rattle.numbers.specs.Number.{bigAt}
+use Rattle.numbers.proofs.Laws.{bigAt-below}
 use Rattle.refusal.specs.Check.{Check, silent, refused, refusedIf, first, firstFrom}
 use Rattle.refusal.specs.Number.{chunk-sizes}
 use Rattle.refusal.proofs.Laws.{said, quiet, silent-test, first-said, first-left, first-right, skip, from-said, from-quiet, from-none, from-each, answered-after, refusal-after}

@@ -5,7 +5,7 @@ use Prim.Native.Nat.{ℕ, zero, suc, _+_, _-_, _*_}
 use lib.Dec.{ltb, leb, eqb}
 use lib.ListN.{length, take}
 use Rattle.parts.specs.Part.{byteAt, partAt, sameBytes}
-use Rattle.field.specs.Number.{bigAt}
+use Rattle.numbers.specs.Number.{bigAt}
 use Rattle.refusal.specs.Check.{Check, refusedIf, first, firstFrom}
 use Rattle.refusal.specs.Number.{not-blte, envelope-header, chunk-sizes}
 use Rattle.refusal.specs.Outcome.{Outcome, answered, refusal, after}

@@ -1,6 +1,6 @@
 // The header of a BLTE envelope: refusals 20 to 22, and where the chunks stand. specs/Header.antt has the names of the constants
 // as that language writes them.
-use field::big;
+use numbers::big;
 use parts::byte;
 use parts::equal;
 use parts::part;

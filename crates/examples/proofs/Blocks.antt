@@ -1,7 +1,7 @@
 -- Where things stand in a root block.
 use mathlib.Core.Path.{refl}
 use Prim.{tt}
-use Rattle.field.specs.Number.{littleAt}
+use Rattle.numbers.specs.Number.{littleAt}
 use Rattle.root_layout.specs.Layout.{headerSize}
 use Rattle.root_block.specs.Block.{blockOf, blockSize, keyAt, hashAt}
 use Rattle.examples.specs.Blocks.{blockRows, BlockExamples}

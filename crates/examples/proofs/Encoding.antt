@@ -2,7 +2,7 @@
 use mathlib.Core.Path.{refl}
 use Prim.{tt}
 use Rattle.parts.specs.Part.{sameBytes}
-use Rattle.field.specs.Number.{bigAt, within}
+use Rattle.numbers.specs.Number.{bigAt, within}
 use Rattle.refusal.specs.Check.{refusedIf, first}
 use Rattle.refusal.specs.Outcome.{after}
 use Rattle.text.specs.Text.{ascii}

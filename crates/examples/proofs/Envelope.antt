@@ -2,7 +2,7 @@
 use mathlib.Core.Path.{refl}
 use Prim.{tt}
 use Rattle.parts.specs.Part.{sameBytes, partsFrom}
-use Rattle.field.specs.Number.{bigAt}
+use Rattle.numbers.specs.Number.{bigAt}
 use Rattle.md5_block.specs.Block.{addends, shifts, mixed, wordNumber, turned, step, steps, word, wordsOf, sum, block, blocks}
 use Rattle.md5.specs.Message.{littleBytes, padding, initial, digestOf, md5}
 use Rattle.refusal.specs.Check.{refusedIf, first, firstFrom}

@@ -1,6 +1,6 @@
 -- Five digits are no key text.
 use native.Mathlib.Omega.{arith}
-use Rattle.field.proofs.Laws.{within-inside}
+use Rattle.numbers.proofs.Laws.{within-inside}
 use Rattle.index_layout.specs.Layout.{leastKeyLength, mostKeyLength}
 use Rattle.key_text.proofs.Laws.{text-length-wrong}
 use Rattle.text.specs.Text.{ascii}

@@ -2,7 +2,7 @@
 use mathlib.Core.Path.{refl}
 use Prim.{tt}
 use Rattle.parts.specs.Part.{sameBytes, partsFrom}
-use Rattle.field.specs.Number.{bigAt, littleAt, within}
+use Rattle.numbers.specs.Number.{bigAt, littleAt, within}
 use Rattle.key.specs.Order.{compared, decided}
 use Rattle.md5_block.specs.Block.{addends, shifts, mixed, wordNumber, turned, step, steps, word, wordsOf, sum, block, blocks}
 use Rattle.md5.specs.Message.{littleBytes, padding, initial, digestOf, md5}
@@ -12,8 +12,8 @@ use Rattle.halving.specs.Halving.{halve, halving, halvedOnce}
 use Rattle.index_layout.specs.Layout.{layoutFrom, pagesFor, entrySize, full, onPage, entryAt, lastKeyAt, indexLength}
 use Rattle.index_layout.specs.Entries.{sizeAt, locationAt}
 use Rattle.index_open.specs.Open.{fieldCheck, fieldsCheckWith, footerHashCheck, footerCheck, opening}
-use Rattle.lookup.specs.Lookup.{storedIn, slotHalved, endedAt, endedOn, pageHalved, endedFrom, ended, endOutcome, keyCheck, lookupOf}
-use Rattle.writer.specs.Write.{listEntrySize, listCount, layoutFor, settingsRight, keyIn, listOrderCheck, inputCheck, writeCheck}
+use Rattle.index_lookup.specs.Lookup.{storedIn, slotHalved, endedAt, endedOn, pageHalved, endedFrom, ended, endOutcome, keyCheck, lookupOf}
+use Rattle.index_writer.specs.Write.{listEntrySize, listCount, layoutFor, settingsRight, keyIn, listOrderCheck, inputCheck, writeCheck}
 use Rattle.examples.specs.Examples.{EachHolds, m1, m2, m3, m4}
 use Rattle.examples.proofs.Laws.{each}
 

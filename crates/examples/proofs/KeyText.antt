@@ -1,7 +1,7 @@
 -- m9: the text of a key.
 use mathlib.Core.Path.{refl}
 use Prim.{tt}
-use Rattle.field.specs.Number.{within}
+use Rattle.numbers.specs.Number.{within}
 use Rattle.refusal.specs.Check.{refusedIf, first, firstFrom}
 use Rattle.refusal.specs.Output.{filled}
 use Rattle.key_text.specs.Text.{digitOf, digitCheck, digitsCheck, textCheck, textBytes, carried}

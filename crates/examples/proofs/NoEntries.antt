@@ -11,8 +11,8 @@ use Rattle.index_layout.specs.declared.Layout.{Layout}
 use Rattle.index_layout.specs.Layout.{onPage, layoutOf}
 use Rattle.index_open.specs.Open.{opening}
 use Rattle.index_open.proofs.Opened.{opened, on-page-some}
-use Rattle.lookup.specs.Lookup.{storedIn, pageHalved, endedFrom, ended, endOutcome}
-use Rattle.lookup.proofs.Laws.{opened-lookup}
+use Rattle.index_lookup.specs.Lookup.{storedIn, pageHalved, endedFrom, ended, endOutcome}
+use Rattle.index_lookup.proofs.Laws.{opened-lookup}
 use Rattle.examples.specs.Examples.{NoEntries}
 
 -- a lookup over no page

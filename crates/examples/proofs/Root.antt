@@ -2,7 +2,7 @@
 use mathlib.Core.Path.{refl}
 use Prim.{tt}
 use Rattle.parts.specs.Part.{sameBytes}
-use Rattle.field.specs.Number.{littleAt, within}
+use Rattle.numbers.specs.Number.{littleAt, within}
 use Rattle.md5.specs.Message.{littleBytes}
 use Rattle.refusal.specs.Check.{refusedIf, first, firstFrom}
 use Rattle.refusal.specs.Outcome.{after}

@@ -10,8 +10,8 @@ use Rattle.refusal.specs.Outcome.{Outcome, answered, absent, refusal}
 use Rattle.refusal.specs.Output.{filled}
 use Rattle.index_layout.specs.Layout.{full, layoutWith, layoutOf}
 use Rattle.index_open.specs.Open.{opening}
-use Rattle.writer.specs.Write.{writeOutcome}
-use Rattle.lookup.specs.Lookup as index
+use Rattle.index_writer.specs.Write.{writeOutcome}
+use Rattle.index_lookup.specs.Lookup as index
 use Rattle.root_layout.specs.Header.{openOutcome}
 use Rattle.root.specs.Lookup as root
 use Rattle.key_text.specs.Text.{textCheck, textBytes, carried}

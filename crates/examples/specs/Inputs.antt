@@ -6,7 +6,7 @@ use lib.ListN.{length, replicate}
 use Rattle.parts.specs.Part.{partsFrom}
 use Rattle.md5.specs.Message.{littleBytes}
 use Rattle.text.specs.Text.{ascii}
-use Rattle.writer.specs.declared.Settings.{Settings}
+use Rattle.index_writer.specs.declared.Settings.{Settings}
 use Rattle.spec_table.specs.Specs.{runOf}
 
 -- ---- archive index

@@ -10,7 +10,7 @@ use lib.Dec.{ltb, leb, eqb}
 use lib.ListN.{length, length-append, List·getD-append}
 use Rattle.parts.specs.Part.{byteAt}
 use Rattle.parts.proofs.Laws.{by-test}
-use Rattle.field.proofs.Laws.{within-inside}
+use Rattle.numbers.proofs.Laws.{within-inside}
 use Rattle.refusal.specs.Outcome.{Outcome, answered}
 use Rattle.text.specs.Text.{decimalDigits, decimal, reads}
 use Rattle.text.proofs.Decimal.{decimal-read}

@@ -12,7 +12,7 @@ use lib.ListN.{length, drop, drop-of-length-le}
 use lib.Seq.{drop-cons}
 use Rattle.parts.specs.Part.{byteAt}
 use Rattle.parts.proofs.Laws.{by-test}
-use Rattle.field.proofs.Laws.{within-range}
+use Rattle.numbers.proofs.Laws.{within-range}
 use Rattle.refusal.specs.Outcome.{answered}
 use Rattle.text.specs.Text.{reads}
 use Rattle.file_number.specs.FileNumber.{mostNumber, empty, leading-zero, no-digit, too-great, wrongAt}

@@ -6,7 +6,7 @@ use Prim.Native.Nat.{ℕ, suc, _+_, _-_, _*_, _≤_}
 use lib.Dec.{ltb, leb, eqb}
 use lib.ListN.{length}
 use Rattle.parts.specs.Part.{byteAt}
-use Rattle.field.specs.Number.{within}
+use Rattle.numbers.specs.Number.{within}
 use Rattle.refusal.specs.Outcome.{Outcome, answered, absent}
 use Rattle.text.specs.Text.{decimal, reads}
 use Rattle.file_number.specs.declared.Told.{Told}

@@ -1,5 +1,5 @@
 // File numbers as decimal text. Any bytes are answered for.
-use field::within;
+use numbers::within;
 ghost use mathlib.Core.Path.{_≡_};
 ghost use Prim.Native.Nat.{ℕ, _≤_};
 ghost use lib.ListN.{length};

@@ -10,7 +10,7 @@ use lib.ListN.{length}
 use borrow.Author.Tests.{eq-eqb, ne-eqb, eqb-true, eqb-false, lt-ltb, le-ltb, ltb-true, ltb-false}
 use Rattle.parts.specs.Part.{byteAt}
 use Rattle.parts.proofs.Laws.{by-test}
-use Rattle.field.specs.Number.{bigAt}
+use Rattle.numbers.specs.Number.{bigAt}
 use Rattle.refusal.specs.Check.{silent, refused, firstFrom}
 use Rattle.refusal.specs.Number.{list-length, list-falls}
 use Rattle.refusal.proofs.Laws.{said, quiet, first-said, first-quiet, silent-test, first-right, from-each}

@@ -6,7 +6,7 @@ use refusal::refuse;
 ghost use mathlib.Core.Path.{_≡_};
 ghost use mathlib.Core.List.{[], _∷_};
 ghost use Prim.Native.Nat.{_<_};
-ghost use Rattle.field.specs.Number.{bigAt};
+ghost use Rattle.numbers.specs.Number.{bigAt};
 ghost use Rattle.refusal.specs.Check.{checkOf};
 ghost use Rattle.id_list.specs.Ids as spec;
 ghost use Rattle.id_list.specs.Place.{Between, Placed, standsAt};

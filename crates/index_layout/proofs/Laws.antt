@@ -9,8 +9,8 @@ use lib.ListN.{take}
 use Rattle.parts.specs.Part.{partAt, byteAt}
 use Rattle.parts.proofs.Laws.{part-of-part}
 use Rattle.index_layout.specs.declared.Layout.{Layout}
-use Rattle.field.specs.Number.{bigAt}
-use Rattle.field.proofs.Laws.{bigAt-below}
+use Rattle.numbers.specs.Number.{bigAt}
+use Rattle.numbers.proofs.Laws.{bigAt-below}
 use Rattle.index_layout.specs.Entries.{locationAt, locationRead, archiveOf, offsetOf}
 use Rattle.index_layout.specs.Layout.{pageSize, entrySize, full, onPage, entryAt, keyAt}
 

@@ -3,7 +3,7 @@ use mathlib.Core.List.{List}
 use Prim.Native.Nat.{ℕ, _+_, _*_, _/_, _%_, _^_, min}
 use Rattle.parts.specs.Part.{partAt, partsFrom}
 use Rattle.index_layout.specs.declared.Layout.{Layout}
-use Rattle.field.specs.Number.{bigAt}
+use Rattle.numbers.specs.Number.{bigAt}
 use Rattle.index_layout.specs.Layout.{sizeWidth, entrySize, onPage, pageAt, entryAt, layoutOf}
 
 -- The size and the location of an entry, which follow its key (rule I5).

@@ -5,7 +5,7 @@ use Prim.Native.Nat.{ℕ, _+_, _-_, _*_, _/_, min}
 use lib.Dec.{ltb}
 use lib.ListN.{length, drop}
 use Rattle.parts.specs.Part.{byteAt, partAt}
-use Rattle.field.specs.Number.{littleAt}
+use Rattle.numbers.specs.Number.{littleAt}
 use Rattle.refusal.specs.Check.{Check, refusedIf}
 use Rattle.refusal.specs.Number.{entry-count}
 use Rattle.index_layout.specs.declared.Layout.{Layout}

@@ -1,6 +1,6 @@
 // Where things stand in an archive index, and the size and location of an entry. Every value of a layout is answered for: the types keep each sum and product
 // within its range. specs/Layout.antt has the same names, as that language writes them.
-use field::big;
+use numbers::big;
 ghost use mathlib.Core.Path.{_≡_};
 ghost use Prim.Native.Nat.{_-_, _≤_};
 ghost use Rattle.index_layout.specs.Layout as spec;

@@ -7,8 +7,8 @@ use native.Mathlib.Nat.{zero-add, zero-mul, sub-zero, add-zero, suc-mul, mul-le-
 use native.Mathlib.Numerals.{add-one-le}
 use native.Mathlib.Omega.{arith}
 use lib.Dec.{ltb}
-use Rattle.field.specs.Number.{within}
-use Rattle.field.proofs.Laws.{within-range}
+use Rattle.numbers.specs.Number.{within}
+use Rattle.numbers.proofs.Laws.{within-range}
 use lib.ListN.{length, length-append}
 use borrow.Author.Tests.{ltb-false, eqb-true, not-false}
 use Rattle.parts.specs.Part.{byteAt, partsFrom}

@@ -5,7 +5,7 @@ use Prim.Native.Nat.{ℕ, _+_, _-_}
 use lib.Dec.{ltb, eqb}
 use lib.ListN.{length, take, replicate}
 use Rattle.parts.specs.Part.{byteAt, partAt, sameBytes}
-use Rattle.field.specs.Number.{within}
+use Rattle.numbers.specs.Number.{within}
 use Rattle.md5.specs.Message.{md5}
 use Rattle.refusal.specs.Check.{Check, silent, refused, refusedIf, first}
 use Rattle.refusal.specs.Outcome.{Outcome, answered, refusal, after}

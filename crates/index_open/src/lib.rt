@@ -1,6 +1,4 @@
 // Opening an archive index: refusals 1 to 5, and the layout that the footer tells; and whether a footer is that of a loose index.
-use field::little;
-use field::within;
 use index_layout::ENTRY_COUNT_AT;
 use index_layout::FOOTER_HASH_AT;
 use index_layout::FOOTER_SIZE;
@@ -22,6 +20,8 @@ use index_layout::RESERVED_AT;
 use index_layout::SIZE_WIDTH;
 use index_layout::SIZE_WIDTH_AT;
 use index_layout::VERSION_AT;
+use numbers::little;
+use numbers::within;
 use parts::byte;
 use parts::copy;
 use parts::equal;

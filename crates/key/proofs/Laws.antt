@@ -14,8 +14,8 @@ use lib.Seq.{drop-cons, getD-drop}
 use borrow.Author.Tests.{lt-ltb, le-ltb}
 use Rattle.parts.specs.Part.{byteAt, partAt}
 use Rattle.parts.proofs.Laws.{partAt-byte}
-use Rattle.field.specs.Number.{bigAt}
-use Rattle.field.proofs.Laws.{bigAt-agree, bigAt-below}
+use Rattle.numbers.specs.Number.{bigAt}
+use Rattle.numbers.proofs.Laws.{bigAt-agree, bigAt-below}
 use Rattle.key.specs.declared.Order.{Order}
 use Rattle.key.specs.declared.Order.the-variants.{Below, Equal, Above}
 use Rattle.key.specs.Order.{decided, compared, isBelow, isEqual, isAbove}

@@ -10,8 +10,8 @@ use native.Mathlib.Omega.{arith}
 use lib.ListN.{length, drop, set, replicate}
 use lib.Seq.{paste, paste-suc, take-length, take-append-seam}
 use borrow.Author.Tests.{ltb-true, eqb-true, not-false, lt-ltb, le-ltb, eq-eqb, ne-eqb}
-use Rattle.field.specs.Number.{within}
-use Rattle.field.proofs.Laws.{within-inside, within-outside, within-range}
+use Rattle.numbers.specs.Number.{within}
+use Rattle.numbers.proofs.Laws.{within-inside, within-outside, within-range}
 use Rattle.index_layout.specs.Layout.{leastKeyLength, mostKeyLength}
 use Rattle.parts.specs.Part.{byteAt, partAt, overlay}
 use Rattle.parts.proofs.Laws.{overlay-inside}

@@ -5,7 +5,7 @@ use Prim.Native.Nat.{ℕ, _+_, _-_, _*_}
 use lib.Dec.{ltb, eqb}
 use lib.ListN.{length, replicate}
 use Rattle.parts.specs.Part.{byteAt}
-use Rattle.field.specs.Number.{within}
+use Rattle.numbers.specs.Number.{within}
 use Rattle.index_layout.specs.Layout.{leastKeyLength, mostKeyLength}
 use Rattle.refusal.specs.Check.{Check, refusedIf, first, firstFrom}
 use Rattle.refusal.specs.Number.{settings, key-text-length, hex-digit}

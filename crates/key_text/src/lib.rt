@@ -1,7 +1,7 @@
 // Key text: two hex digits for each byte of a key, the higher first.
-use field::within;
 use index_layout::LEAST_KEY_LENGTH;
 use index_layout::MOST_KEY_LENGTH;
+use numbers::within;
 use refusal::HEX_DIGIT;
 use refusal::KEY_TEXT_LENGTH;
 use refusal::SETTINGS;

@@ -1,6 +1,6 @@
 // Lists an archive index: standard input as text on standard output.
-use printed::MOST_PRINTED;
-use printed::print;
+use listing_printed::MOST_PRINTED;
+use listing_printed::print;
 ghost use mathlib.Core.Path.{_≡_};
 ghost use lib.ListN.{length};
 

@@ -7,7 +7,7 @@ use Rattle.index_layout.specs.declared.Layout.{Layout}
 use Rattle.index_layout.specs.Layout.{entryAt, keyAt}
 use Rattle.index_layout.specs.Entries.{sizeAt, locationRead}
 use Rattle.index_layout.proofs.Laws.{location-is}
-use Rattle.lines.specs.Lines.{entryLine}
+use Rattle.listing_lines.specs.Lines.{entryLine}
 use Rattle.listing.specs.Listing.{line}
 
 module _ (s : List ℕ) (l : Layout) (p i at : ℕ) (e : at ≡ entryAt l p i) (w : l .«offset_width» ≤ 8) (key : List ℕ) (size location : ℕ)

@@ -19,8 +19,8 @@ use Rattle.index.specs.Check.{pagesCheck, fullCheck}
 use Rattle.index_layout.proofs.Laws.{full-fits, on-page-full}
 use Rattle.index_open.proofs.Opened.{Opened, opened, size-range}
 use Rattle.index_layout.specs.Entries.{sizeAt, locationAt}
-use Rattle.lines.specs.Lines.{header}
-use Rattle.lines.proofs.Laws.{header-most, entry-most}
+use Rattle.listing_lines.specs.Lines.{header}
+use Rattle.listing_lines.proofs.Laws.{header-most, entry-most}
 use Rattle.listing.specs.Listing.{line, pageText, pagesText, textBy, textOf, inputCheck, listingCheck}
 
 line-most : (s : List ℕ) (l : Layout) (p i : ℕ) → l .«key_length» ≤ 16 → length (line s l p i) ≤ 96

@@ -13,7 +13,7 @@ use Rattle.index_layout.specs.declared.Layout.{Layout}
 use Rattle.index_layout.specs.Layout.{onPage, layoutOf, keyAt}
 use Rattle.index.specs.Check.{fullCheck}
 use Rattle.index_layout.specs.Entries.{sizeAt, locationAt}
-use Rattle.lines.specs.Lines.{header, entryLine}
+use Rattle.listing_lines.specs.Lines.{header, entryLine}
 
 -- The line of slot i of page p.
 unfoldable pub line : List ℕ → Layout → ℕ → ℕ → List ℕ

@@ -1,6 +1,6 @@
 -- The listing of document 01's index, its hashes checked, and the lines of refusals.
 use mathlib.Core.Path.{_≡_, refl, ap, _∙_}
-use Rattle.field.specs.Number.{bigAt, littleAt, within}
+use Rattle.numbers.specs.Number.{bigAt, littleAt, within}
 use Rattle.parts.specs.Part.{sameBytes, allZero, partsFrom}
 use Rattle.refusal.specs.Check.{silent, refused, refusedIf, first, firstFrom}
 use Rattle.md5_block.specs.Block.{addends, shifts, mixed, wordNumber, turned, step, steps, word, wordsOf, sum, block, blocks}
@@ -11,11 +11,11 @@ use Rattle.index_open.specs.Open.{fieldCheck, fieldsCheckWith, footerHashCheck,
 use Rattle.index.specs.Check.{pageHashCheck, paddingCheck, keyBefore, notAbove, orderCheck, lastKeyCheck, pageCheck, pagesCheck, fullCheck}
 use Rattle.index_layout.specs.Entries.{sizeAt, locationAt}
 use Rattle.text.specs.Text.{ascii, decimalDigits, hex}
-use Rattle.lines.specs.Lines.{header, locationText, entryLine}
+use Rattle.listing_lines.specs.Lines.{header, locationText, entryLine}
 use Rattle.listing.specs.Listing.{line, pageText, pagesText, textBy, textOf, listingCheck}
 use Rattle.examples.specs.Inputs.{one, none}
 use Rattle.listing_example.specs.Listing.{Listing}
-use Rattle.printed.specs.Printed.{hasPlace, placeText, refusalLine, printedAfter, printed}
+use Rattle.listing_printed.specs.Printed.{hasPlace, placeText, refusalLine, printedAfter, printed}
 
 -- both indexes pass the full check, their hashes with it
 passes : (listingCheck one ≡ silent) × (listingCheck none ≡ silent)

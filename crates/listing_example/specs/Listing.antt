@@ -2,7 +2,7 @@
 use mathlib.Core.Path.{_≡_}
 use mathlib.Core.List.{[]}
 use Rattle.text.specs.Text.{ascii}
-use Rattle.printed.specs.Printed.{refusalLine, printed}
+use Rattle.listing_printed.specs.Printed.{refusalLine, printed}
 use Rattle.examples.specs.Inputs.{one, none}
 
 pub record Listing : Type 0 where

@@ -1,2 +1,2 @@
 // Document 01's example of the listing, as specs/Listing.antt states it. No functions of its own: it is about the definition that the
-// contract of `printed::print` uses.
+// contract of `listing_printed::print` uses.

@@ -8,7 +8,7 @@ use native.Mathlib.Omega.{arith}
 use lib.Dec.{ltb}
 use borrow.Author.Tests.{lt-ltb, le-ltb, not-true}
 use Rattle.parts.specs.Part.{byteAt, partAt}
-use Rattle.field.specs.Number.{bigAt}
+use Rattle.numbers.specs.Number.{bigAt}
 use Rattle.key.specs.Order.{compared, isBelow}
 use Rattle.key.specs.declared.Order.the-variants.{Below}
 use Rattle.key.proofs.Laws.{below-of-bigAt, part-bytes, part-number}

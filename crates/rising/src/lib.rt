@@ -4,7 +4,7 @@ ghost use mathlib.Core.Path.{_≡_};
 ghost use Prim.Native.Nat.{_+_, _-_, _≤_, _<_};
 ghost use lib.ListN.{length};
 ghost use Rattle.parts.specs.Part.{byteAt};
-ghost use Rattle.field.specs.Number.{bigAt};
+ghost use Rattle.numbers.specs.Number.{bigAt};
 ghost use Rattle.rising.specs.Fall as spec;
 ghost use Rattle.rising.specs.Skipped.{Skipped};
 

@@ -13,7 +13,7 @@ use mir.Val.{SFits, toZ, ofZ}
 use mir.Facts.{toZ-ofZ}
 use borrow.Author.Tests.{not-false, leb-true}
 use Rattle.parts.specs.Part.{byteAt}
-use Rattle.field.specs.Number.{littleAt}
+use Rattle.numbers.specs.Number.{littleAt}
 use Rattle.refusal.specs.Check.{silent, refused, firstFrom}
 use Rattle.refusal.specs.Number.{id-range}
 use Rattle.refusal.proofs.Laws.{said, quiet, silent-test, from-each, upto-said, upto-quiet, upto-end}

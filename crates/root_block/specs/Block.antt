@@ -6,7 +6,7 @@ use lib.Bits.{bitAnd}
 use lib.Dec.{ltb, eqb}
 use lib.ListN.{length}
 use Rattle.parts.specs.Part.{partAt}
-use Rattle.field.specs.Number.{littleAt}
+use Rattle.numbers.specs.Number.{littleAt}
 use Rattle.refusal.specs.Check.{Check, refusedIf, first}
 use Rattle.refusal.specs.Number.{block-cut}
 use Rattle.root_layout.specs.declared.Layout.{Layout}

@@ -4,7 +4,7 @@ use mathlib.Core.List.{List}
 use Prim.Native.Nat.{ℕ, zero, suc, _*_}
 use lib.Dec.{ltb, leb}
 use lib.IntN.{ℤ, pos, negsuc, _+ℤ_, _-ℤ_}
-use Rattle.field.specs.Number.{littleAt}
+use Rattle.numbers.specs.Number.{littleAt}
 use Rattle.refusal.specs.Check.{Check, refusedIf, firstFrom}
 use Rattle.refusal.specs.Number.{id-range}
 

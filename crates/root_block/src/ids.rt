@@ -7,7 +7,7 @@ ghost use mathlib.Core.Path.{_≡_};
 ghost use mathlib.Core.List.{[], _∷_};
 ghost use Prim.Native.Nat.{_*_, _≤_};
 ghost use lib.ListN.{length};
-ghost use Rattle.field.specs.Number.{littleAt};
+ghost use Rattle.numbers.specs.Number.{littleAt};
 ghost use Rattle.refusal.specs.Check.{checkOf};
 ghost use Rattle.root_block.specs.Ids as spec;
 

@@ -1,8 +1,8 @@
 // A block of a root file under a layout: its header, its size, its ids, and where its keys and name hashes stand. The bytes lent
 // begin with the block; what follows it does not matter. specs/Block.antt and specs/Ids.antt have the names of the constants as that
 // language writes them.
-use field::little;
 use ids::check_ids;
+use numbers::little;
 use parts::part;
 use refusal::BLOCK_CUT;
 use refusal::Verdict;

@@ -7,8 +7,8 @@ use native.Mathlib.Omega.{arith}
 use lib.ListN.{length}
 use borrow.Author.Tests.{lt-ltb, le-ltb, eq-eqb, ne-eqb}
 use Rattle.parts.specs.Part.{byteAt}
-use Rattle.field.specs.Number.{littleAt, within}
-use Rattle.field.proofs.Laws.{littleAt-below}
+use Rattle.numbers.specs.Number.{littleAt, within}
+use Rattle.numbers.proofs.Laws.{littleAt-below}
 use Rattle.refusal.specs.Check.{Check, silent, refused, refusedIf, first}
 use Rattle.refusal.specs.Number.{root-header-size, root-header-cut, root-version}
 use Rattle.refusal.specs.Outcome.{answered, refusal, after}

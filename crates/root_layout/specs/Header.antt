@@ -5,7 +5,7 @@ use Prim.Native.Nat.{ℕ}
 use lib.Dec.{ltb, eqb}
 use lib.ListN.{length}
 use Rattle.parts.specs.Part.{partAt, sameBytes}
-use Rattle.field.specs.Number.{littleAt, within}
+use Rattle.numbers.specs.Number.{littleAt, within}
 use Rattle.refusal.specs.Check.{Check, refusedIf, first}
 use Rattle.refusal.specs.Number.{root-header-size, root-header-cut, root-version}
 use Rattle.refusal.specs.Outcome.{Outcome, answered, refusal, after}

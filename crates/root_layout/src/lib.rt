@@ -1,7 +1,7 @@
 // The header of a root file, refusals 42 to 44, and how its blocks are laid out. specs/Header.antt and specs/Layout.antt have the
 // names of the constants as that language writes them.
-use field::little;
-use field::within;
+use numbers::little;
+use numbers::within;
 use parts::equal;
 use parts::part;
 use refusal::ROOT_HEADER_CUT;
@@ -10,7 +10,7 @@ use refusal::ROOT_VERSION;
 use refusal::Refusal;
 ghost use mathlib.Core.Path.{_≡_};
 ghost use Prim.Native.Nat.{_≤_};
-ghost use Rattle.field.specs.Number.{littleAt};
+ghost use Rattle.numbers.specs.Number.{littleAt};
 ghost use Rattle.refusal.specs.Outcome.{refusal};
 ghost use Rattle.root_layout.specs.Layout as spec;
 ghost use Rattle.root_layout.specs.Header as header;

@@ -1,7 +1,7 @@
 -- `chain::resolve_encoding_key`: what the index lookup answers.
 use mathlib.Core.Path.{sym, ap, _∙_}
 use borrow.Author.Needs.{needs}
-use Rattle.lookup.specs.Lookup.{outcome}
+use Rattle.index_lookup.specs.Lookup.{outcome}
 use Rattle.chain.specs.declared.Link.the-variants.{Index}
 use Rattle.chain.specs.Chain.{found, linked, indexTold, told}
 use Rattle.chain.proofs.resolve_encoding_key.Statement.{statement}

@@ -1,7 +1,7 @@
 -- `encoding_header::read_header`: two tables and the spec size.
 use native.Mathlib.Omega.{arith}
 use borrow.Author.Needs.{needs}
-use Rattle.field.proofs.Laws.{bigAt-below}
+use Rattle.numbers.proofs.Laws.{bigAt-below}
 use Rattle.encoding_header.specs.Header.{specSizeAt, headerOf}
 use Rattle.encoding_header.proofs.read_header.Statement.{statement}
 use Rattle.encoding_header.proofs.read_header.Tie as tie

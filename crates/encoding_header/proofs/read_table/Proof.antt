@@ -1,7 +1,7 @@
 -- `encoding_header::read_table`: three fields.
 use native.Mathlib.Omega.{arith}
 use borrow.Author.Needs.{needs}
-use Rattle.field.proofs.Laws.{bigAt-below}
+use Rattle.numbers.proofs.Laws.{bigAt-below}
 use Rattle.encoding_header.specs.Header.{tableFrom}
 use Rattle.encoding_header.proofs.read_table.Statement.{statement}
 use Rattle.encoding_header.proofs.read_table.Tie as tie

@@ -2,7 +2,7 @@
 use mathlib.Core.Path.{sym, ap, _∙_}
 use native.Mathlib.Omega.{arith}
 use borrow.Author.Needs.{needs}
-use Rattle.field.proofs.Laws.{bigAt-below}
+use Rattle.numbers.proofs.Laws.{bigAt-below}
 use Rattle.encoding_page.specs.Entries.{entrySize, specNumber}
 use Rattle.encoding_lookup.specs.Lookup.{encodingOutcome, specOutcome}
 use Rattle.encoding_lookup.proofs.Laws.{encoding-refused, encoding-found}

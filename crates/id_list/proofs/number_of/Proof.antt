@@ -1,6 +1,6 @@
 -- `id_list::number_of`: the highest byte first.
 use native.Mathlib.Omega.{arith}
-use Rattle.field.specs.Number.{bigAt}
+use Rattle.numbers.specs.Number.{bigAt}
 use borrow.Author.Needs.{needs}
 use Rattle.id_list.proofs.number_of.Statement.{statement}
 use Rattle.id_list.proofs.number_of.Tie as tie

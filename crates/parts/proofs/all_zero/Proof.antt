@@ -1,4 +1,4 @@
--- `field::all_zero` meets its contract: the bytes passed are 0.
+-- `parts::all_zero` meets its contract: the bytes passed are 0.
 use mathlib.Core.Path.{_≡_, sym}
 use Prim.Native.Nat.{ℕ, _-_, _≤_, _<_}
 use borrow.Author.Count.{below-none, below-more}

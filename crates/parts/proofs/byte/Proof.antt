@@ -1,4 +1,4 @@
--- `field::byte` meets its contract: past the end the list's own default is 0.
+-- `parts::byte` meets its contract: past the end the list's own default is 0.
 use mathlib.Core.Path.{sym}
 use borrow.Author.Needs.{needs}
 use lib.ListN.{List·getD-eq-default}

@@ -1,4 +1,4 @@
--- `field::copy` meets its contract: after turn i `to` has the first i bytes of `from` pasted in, and an overlay pastes what has room.
+-- `parts::copy` meets its contract: after turn i `to` has the first i bytes of `from` pasted in, and an overlay pastes what has room.
 use mathlib.Core.Path.{_≡_, refl, sym}
 use Prim.Native.Nat.{_-_, _≤_, min}
 use native.Mathlib.Numerals.{add-one}

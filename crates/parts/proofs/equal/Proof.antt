@@ -1,4 +1,4 @@
--- `field::equal` meets its contract: the bytes passed are the same, and two lists as long that agree at each index are equal.
+-- `parts::equal` meets its contract: the bytes passed are the same, and two lists as long that agree at each index are equal.
 use mathlib.Core.Path.{_≡_, sym, ap}
 use mathlib.Core.List.{List}
 use Prim.Native.Nat.{ℕ, _-_, _≤_, _<_}

@@ -1,4 +1,4 @@
--- `field::part` meets its contract: the clipped start and count give the same part.
+-- `parts::part` meets its contract: the clipped start and count give the same part.
 use native.Mathlib.Nat.{add-sub-cancel-left}
 use mathlib.Core.Path.{refl}
 use native.Mathlib.Omega.{arith}

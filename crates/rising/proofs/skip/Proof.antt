@@ -4,7 +4,7 @@ use Prim.Native.Nat.{_+_, _-_, _*_, _≤_, _<_}
 use native.Mathlib.Nat.{le-refl}
 use native.Mathlib.Omega.{arith}
 use borrow.Author.Needs.{needs}
-use Rattle.field.specs.Number.{bigAt}
+use Rattle.numbers.specs.Number.{bigAt}
 use Rattle.rising.specs.Fall.{fallFrom}
 use Rattle.rising.proofs.Laws.{at-fits, at-least, key-at, before-at, next-at, rises-on, eight-rises}
 use Rattle.rising.proofs.skip.Statement.{statement}

@@ -1,4 +1,4 @@
--- `dwarnizza::indexes::dwarnizza_index_bound`: what `lookup::bound` answers, laid out.
+-- `dwarnizza::indexes::dwarnizza_index_bound`: what `index_lookup::bound` answers, laid out.
 use borrow.Author.Needs.{needs}
 use Rattle.crossing.proofs.Laws.{crosses-as}
 use Rattle.dwarnizza.proofs.indexes.dwarnizza_index_bound.Statement.{statement}

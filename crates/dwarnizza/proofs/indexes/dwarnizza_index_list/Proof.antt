@@ -1,4 +1,4 @@
--- `dwarnizza::indexes::dwarnizza_index_list`: what `entries::list` answers, laid out.
+-- `dwarnizza::indexes::dwarnizza_index_list`: what `index_list::list` answers, laid out.
 use borrow.Author.Needs.{needs}
 use Rattle.crossing.proofs.Laws.{crosses-as}
 use Rattle.dwarnizza.proofs.indexes.dwarnizza_index_list.Statement.{statement}

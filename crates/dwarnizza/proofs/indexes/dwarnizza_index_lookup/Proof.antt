@@ -1,4 +1,4 @@
--- `dwarnizza::indexes::dwarnizza_index_lookup`: what `lookup::lookup` answers, laid out.
+-- `dwarnizza::indexes::dwarnizza_index_lookup`: what `index_lookup::lookup` answers, laid out.
 use borrow.Author.Needs.{needs}
 use Rattle.crossing.proofs.Laws.{crosses-as}
 use Rattle.dwarnizza.proofs.indexes.dwarnizza_index_lookup.Statement.{statement}

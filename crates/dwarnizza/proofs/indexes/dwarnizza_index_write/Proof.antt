@@ -1,4 +1,4 @@
--- `dwarnizza::indexes::dwarnizza_index_write`: what `writer::write` answers, laid out.
+-- `dwarnizza::indexes::dwarnizza_index_write`: what `index_writer::write` answers, laid out.
 use mathlib.Core.Path.{_∙_}
 use lib.ListN.{length}
 use Rattle.dwarnizza.proofs.NarrowLaws.{write-narrowed, file-narrowed}

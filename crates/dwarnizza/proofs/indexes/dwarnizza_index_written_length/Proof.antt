@@ -1,4 +1,4 @@
--- `dwarnizza::indexes::dwarnizza_index_written_length`: what `writer::written_length` answers, laid out.
+-- `dwarnizza::indexes::dwarnizza_index_written_length`: what `index_writer::written_length` answers, laid out.
 use mathlib.Core.Path.{_∙_}
 use Rattle.dwarnizza.proofs.NarrowLaws.{length-narrowed}
 use borrow.Author.Needs.{needs}

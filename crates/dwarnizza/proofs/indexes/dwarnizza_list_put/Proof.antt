@@ -1,7 +1,7 @@
--- `dwarnizza::indexes::dwarnizza_list_put`: what `list_entry::put_entry` answers, laid out.
+-- `dwarnizza::indexes::dwarnizza_list_put`: what `index_list_entry::put_entry` answers, laid out.
 use mathlib.Core.Path.{_∙_}
 use lib.ListN.{length}
-use Rattle.list_entry.specs.Put.{locationOf}
+use Rattle.index_list_entry.specs.Put.{locationOf}
 use Rattle.dwarnizza.proofs.NarrowLaws.{put-narrowed, entry-narrowed}
 use borrow.Author.Needs.{needs}
 use Rattle.crossing.proofs.Laws.{crosses-as}

@@ -1,6 +1,6 @@
 -- `dwarnizza::indexes::tell_bound`: each case, laid out.
 use mathlib.Core.Path.{refl, sym, ap}
-use Rattle.lookup.specs.Lookup.{boundOutcome}
+use Rattle.index_lookup.specs.Lookup.{boundOutcome}
 use Rattle.crossing.specs.Crossing.{result, answerWords}
 use borrow.Author.Needs.{needs}
 use Rattle.crossing.proofs.Laws.{crosses-as}

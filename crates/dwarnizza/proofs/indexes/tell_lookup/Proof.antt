@@ -2,7 +2,7 @@
 use mathlib.Core.Path.{refl, sym, ap}
 use borrow.Author.Needs.{needs}
 use Rattle.crossing.proofs.Laws.{crosses-as}
-use Rattle.lookup.specs.Lookup.{outcome}
+use Rattle.index_lookup.specs.Lookup.{outcome}
 use Rattle.crossing.specs.Crossing.{result, answerWords}
 use Rattle.dwarnizza.proofs.indexes.tell_lookup.Statement.{statement}
 use Rattle.dwarnizza.proofs.indexes.tell_lookup.Tie as tie

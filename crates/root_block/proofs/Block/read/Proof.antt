@@ -1,7 +1,7 @@
 -- `root_block::Block::read`: each field at its place.
 use mathlib.Core.Path.{ap, ap₂, _∙_}
 use Prim.Native.Nat.{min}
-use Rattle.field.specs.Number.{littleAt}
+use Rattle.numbers.specs.Number.{littleAt}
 use Rattle.root_layout.specs.Layout.{contentAt}
 use Rattle.root_block.specs.Block.{blockOf}
 use Rattle.root_block.proofs.Laws.{content-whole}

@@ -1,6 +1,6 @@
 -- `root_block::ids::number_of`: the lowest byte first.
 use native.Mathlib.Omega.{arith}
-use Rattle.field.specs.Number.{littleAt}
+use Rattle.numbers.specs.Number.{littleAt}
 use borrow.Author.Needs.{needs}
 use Rattle.root_block.proofs.ids.number_of.Statement.{statement}
 use Rattle.root_block.proofs.ids.number_of.Tie as tie

@@ -1,4 +1,0 @@
-pub mod Agreement
-pub mod Rising
-pub mod Reading
-pub mod Demand3

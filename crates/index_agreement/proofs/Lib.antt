@@ -1,0 +1,4 @@
+pub mod Agreement
+pub mod Rising
+pub mod Reading
+pub mod LookupAgrees

@@ -1,0 +1,4 @@
+pub mod Paged
+pub mod Again
+pub mod Back
+pub mod RoundTrip

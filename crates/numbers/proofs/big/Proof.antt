@@ -1,0 +1,50 @@
+-- `numbers::big` meets its contract: the padded bytes agree with those at the offset.
+use Prim.Native.Nat.{min}
+use native.Mathlib.Nat.{zero-add}
+use native.Mathlib.Omega.{arith}
+use borrow.Author.Needs.{needs}
+use Rattle.numbers.proofs.Laws.{bigAt-agree}
+use Rattle.numbers.proofs.big.Statement.{statement}
+use Rattle.numbers.proofs.big.Tie as tie
+
+least-requires : tie.Need-least-requires
+least-requires c κs = search needs
+
+rest-requires : tie.Need-rest-requires
+rest-requires c κs = search needs
+
+big-inside-requires : tie.Need-big-inside-requires
+big-inside-requires c κs = search needs
+
+returns : tie.Need-returns
+returns c = cc
+
+padded-requires : tie.Need-padded-requires
+padded-requires c κs = search needs
+
+slice-aggregate-big-inside : tie.Need-slice-aggregate-big-inside
+slice-aggregate-big-inside c = search needs
+
+big-inside-requires-2 : tie.Need-big-inside-requires-2
+big-inside-requires-2 c κs = search needs
+
+returns-2 : tie.Need-returns-2
+returns-2 c =
+    let a = c .before .before .before .before .before .before .before .args in
+    let near = c .before .before .padded in
+    cc
+    (bigAt-agree (near .result) (a .s .now) 0 (a .at) (min (a .width) 8)
+    (λ i l. rw zero-add (near .ensures i (omega arith))))
+
+pub big-spec : {M : Type 1} → statement M
+big-spec =
+    tie.close
+    (tie.spec
+    least-requires
+    rest-requires
+    big-inside-requires
+    returns
+    padded-requires
+    slice-aggregate-big-inside
+    big-inside-requires-2
+    returns-2)

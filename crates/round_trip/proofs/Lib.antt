@@ -1,4 +1,0 @@
-pub mod Paged
-pub mod Again
-pub mod Back
-pub mod Demand2
