@@ -18,7 +18,7 @@ fn proved_numbers() -> Vec<(String, u32)> {
 
 /// The numbers that the program `list_index` prints a place with.
 fn numbers_with_place() -> Vec<u32> {
-    let file = text("crates/printed/src/lib.rt");
+    let file = text("crates/listing_printed/src/lib.rt");
     let (_, function) = file
         .split_once("fn has_place(")
         .expect("the crate tells which numbers have a place");
