@@ -8,7 +8,7 @@ ghost use mathlib.Core.List.{_∷_};
 ghost use lib.ListN.{replicate};
 ghost use Rattle.refusal.specs.Outcome.{answered};
 ghost use Rattle.index_open.specs.Open.{layoutValues};
-ghost use Rattle.index_entry.specs.Entry as numbered;
+ghost use Rattle.index_entry.specs.Entry as entry;
 ghost use Rattle.index_page.specs.Page as page;
 ghost use Rattle.crossing.specs.Crossing.{answerWords};
 
@@ -38,9 +38,9 @@ pub(crate) fn layout_words(l: Layout) -> [u64; 8]
     [version, offset_width, key_length, entries, pages, 0, 0, 0]
 }
 
-// The words of an index entry by its number.
-pub(crate) fn numbered_words(e: index_entry::Entry) -> [u64; 8]
-    ensures { λ r. ⌜ r ≡ answerWords 0 (answered (numbered.values e)) ⌝ }
+// The words of the entry in a slot.
+pub(crate) fn slot_words(e: index_entry::Entry) -> [u64; 8]
+    ensures { λ r. ⌜ r ≡ answerWords 0 (answered (entry.values e)) ⌝ }
 {
     let page = e.page;
     let slot = e.slot;

@@ -1,8 +1,8 @@
 // Archive indexes.
 use crate::answer::entry_words;
 use crate::answer::layout_words;
-use crate::answer::numbered_words;
 use crate::answer::page_words;
+use crate::answer::slot_words;
 use crate::narrow::narrow_settings;
 use crossing::refused;
 use crossing::tell_bytes;
@@ -52,7 +52,7 @@ pub extern "C" fn dwarnizza_index_check(index: &[u8], answer: &mut [u64; 8]) -> 
     tell_layout(index::check(index), answer)
 }
 
-// What the footer says, by 1 to 5 alone: version, offset width, key length, entries and pages.
+// What the footer says, by the opening checks alone: version, offset width, key length, entries and pages.
 #[no_mangle]
 pub extern "C" fn dwarnizza_index_settings(index: &[u8], answer: &mut [u64; 8]) -> u32
     ensures { λ r. ⌜ Crosses (openOutcome (now (index .entry))) r (now (answer .exit)) ⌝ }
@@ -60,7 +60,7 @@ pub extern "C" fn dwarnizza_index_settings(index: &[u8], answer: &mut [u64; 8]) 
     tell_layout(index_open::open(index), answer)
 }
 
-// Lays out what an entry by its number answers.
+// Lays out what an entry by page and slot answers.
 fn tell_entry(told: index_entry::Answer, answer: &mut [u64; 8]) -> u32
     ensures { λ r. ⌜ Crosses (entries.outcome told) r (now (answer .exit)) ⌝ }
 {
@@ -71,22 +71,27 @@ fn tell_entry(told: index_entry::Answer, answer: &mut [u64; 8]) -> u32
             1
         }
         index_entry::Answer::Found(e) => {
-            *answer = numbered_words(e);
+            *answer = slot_words(e);
             0
         }
     }
 }
 
-// The entry of a number: place of the key, its length, size, archive number, offset, page and slot.
+// The entry in a slot of a page: place of the key, its length, size, archive number, offset, page and slot.
 #[no_mangle]
-pub extern "C" fn dwarnizza_index_entry(index: &[u8], number: u64, answer: &mut [u64; 8]) -> u32
-    ensures { λ r. ⌜ Crosses (entryOutcome (now (index .entry)) number) r (now (answer .exit)) ⌝ }
+pub extern "C" fn dwarnizza_index_entry(
+    index: &[u8],
+    page: u64,
+    slot: u64,
+    answer: &mut [u64; 8],
+) -> u32
+    ensures { λ r. ⌜ Crosses (entryOutcome (now (index .entry)) page slot) r (now (answer .exit)) ⌝ }
 {
-    tell_entry(index_entry::find(index, number), answer)
+    tell_entry(index_entry::find(index, page, slot), answer)
 }
 
-// What the footer says, by 1 to 4 alone: version, offset width, key length, entries, pages, the length of the whole file and that
-// of the footer.
+// What the footer says, by the opening checks but that of the length: version, offset width, key length, entries, pages, the length
+// of the whole file and that of the footer.
 #[no_mangle]
 pub extern "C" fn dwarnizza_index_footer(index: &[u8], answer: &mut [u64; 8]) -> u32
     ensures { λ r. ⌜ Crosses (footerOutcome (now (index .entry))) r (now (answer .exit)) ⌝ }

@@ -1,13 +1,13 @@
--- One entry of an index by its number: rule I27.
+-- One entry of an index, by its page and slot: rule I27.
 use mathlib.Core.Path.{_≡_}
-use mathlib.Core.Bool.{cond}
+use mathlib.Core.Bool.{cond, _&&_}
 use mathlib.Core.List.{List, [], _∷_}
-use Prim.Native.Nat.{ℕ, _*_, _/_, _%_, _<_}
+use Prim.Native.Nat.{ℕ}
 use lib.Dec.{ltb, eqb}
 use Rattle.refusal.specs.Outcome.{Outcome, answered, absent, refusal, after}
 use Rattle.index_layout.specs.declared.Layout.{Layout}
-use Rattle.parts.specs.Part.{partAt}
-use Rattle.index_layout.specs.Layout.{entrySize, full, entryAt, layoutOf}
+use Rattle.parts.specs.Part.{partAt, partsFrom}
+use Rattle.index_layout.specs.Layout.{entrySize, onPage, entryAt, layoutOf}
 use Rattle.index_layout.specs.Entries.{sizeAt, locationAt, archiveOf, offsetOf, entriesBy}
 use Rattle.index_open.specs.Open.{opening}
 use Rattle.index_entry.specs.declared.Entry.{Entry}
@@ -37,21 +37,13 @@ valuesAt s l p i =
     ∷ i
     ∷ []
 
--- E entries stand on a page before the next one begins (rules I7, I27).
-abbrev pub pageOfEntry : Layout → ℕ → ℕ
-pageOfEntry l number = number / full l
+-- An index of P pages has those from 0 to P - 1, and a page of m entries the slots from 0 to m - 1 (rules I7, I27).
+unfoldable pub entryIn : List ℕ → Layout → (page slot : ℕ) → Outcome
+entryIn s l p i = cond (ltb p (l .pages) && ltb i (onPage l p)) (answered (valuesAt s l p i)) (absent [])
 
-abbrev pub slotOfEntry : Layout → ℕ → ℕ
-slotOfEntry l number = number % full l
-
--- An index of n entries has those from 0 to n - 1 (rule I27).
-unfoldable pub entryIn : List ℕ → Layout → ℕ → Outcome
-entryIn s l number =
-    cond (ltb number (l .entries)) (answered (valuesAt s l (pageOfEntry l number) (slotOfEntry l number))) (absent [])
-
--- By 1 to 5 only (rule I27).
-abbrev pub entryOutcome : List ℕ → ℕ → Outcome
-entryOutcome s number = after (opening s) (entryIn s (layoutOf s) number)
+-- By the opening checks alone (rule I27).
+abbrev pub entryOutcome : List ℕ → (page slot : ℕ) → Outcome
+entryOutcome s p i = after (opening s) (entryIn s (layoutOf s) p i)
 
 -- What the declared answers tell.
 unfoldable pub values : Entry → List ℕ
@@ -62,8 +54,10 @@ outcome (Found e) = answered (values e)
 outcome Absent = absent []
 outcome (Refused r) = refusal (r .number) (r .place)
 
--- The entries from 0 to n - 1, in order, are those of the list (rule I27).
-abbrev pub EntriesOfList : List ℕ → Layout → Type 0
-EntriesOfList s l =
-    (number : ℕ) → number < l .entries
-    → partAt (entriesBy s l) (number * entrySize l) (entrySize l) ≡ partAt s (entryAt l (pageOfEntry l number) (slotOfEntry l number)) (entrySize l)
+-- The bytes of the entry in slot i of page p (rules I5, I7).
+abbrev pub storedEntry : List ℕ → Layout → ℕ → ℕ → List ℕ
+storedEntry s l p i = partAt s (entryAt l p i) (entrySize l)
+
+-- The entries page by page, and slot by slot, are the list (rules I15, I27).
+abbrev pub EntriesOfList : Type 0
+EntriesOfList = (s : List ℕ) (l : Layout) → partsFrom (λ p. partsFrom (λ i. storedEntry s l p i) 0 (onPage l p)) 0 (l .pages) ≡ entriesBy s l

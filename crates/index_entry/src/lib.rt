@@ -1,4 +1,4 @@
-// One entry of an archive index by its number.
+// One entry of an archive index, by its page and slot.
 use index_layout::Layout;
 use index_layout::Page;
 use index_layout::Slot;
@@ -24,7 +24,7 @@ pub struct Entry {
     pub slot: Slot,
 }
 
-// What is answered for a number.
+// What is answered for a page and a slot.
 pub enum Answer {
     Found(Entry),
     Absent,
@@ -72,19 +72,21 @@ fn found(index: &[u8], l: Layout, page: Page, slot: Slot) -> Entry
     }
 }
 
-// The entry of a number. Refusals 1 to 5; no page is checked.
-pub fn find(index: &[u8], number: u64) -> Answer
-    ensures { λ r. ⌜ spec.outcome r ≡ spec.entryOutcome (now (index .entry)) number ⌝ }
+// The entry in a slot of a page. The opening checks; no page is checked.
+pub fn find(index: &[u8], page: u64, slot: u64) -> Answer
+    ensures { λ r. ⌜ spec.outcome r ≡ spec.entryOutcome (now (index .entry)) page slot ⌝ }
 {
     match index_open::open(index) {
         Checked::Refused(r) => Answer::Refused(r),
         Checked::Passed(l) => {
-            if l.entries as u64 <= number {
+            if l.pages as u64 <= page {
                 return Answer::Absent;
             }
-            let n = number as u32;
-            let full = l.full() as u32;
-            Answer::Found(found(index, l, Page(n / full), Slot(n % full)))
+            let p = Page(page as u32);
+            if l.on_page(p) as u64 <= slot {
+                return Answer::Absent;
+            }
+            Answer::Found(found(index, l, p, Slot(slot as u32)))
         }
     }
 }

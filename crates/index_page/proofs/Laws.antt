@@ -1,9 +1,8 @@
 -- Laws of a page of an index.
-use mathlib.Core.Path.{_≡_, refl, sym, ap, ap₂, _∙_}
+use mathlib.Core.Path.{_≡_, refl, sym, ap, _∙_}
 use mathlib.Core.Bool.{cond}
 use mathlib.Core.List.{List, []}
-use Prim.Native.Nat.{ℕ, _+_, _*_, _/_, _%_, _≤_, _<_, min}
-use native.Mathlib.Nat.{add-zero, mul-add-div-right, mul-add-mod-self-right, div-eq-of-lt, mod-eq-of-lt}
+use Prim.Native.Nat.{ℕ, _≤_, _<_, min}
 use native.Mathlib.Decide.{decLt}
 use native.Mathlib.Omega.{arith}
 use borrow.Author.Tests.{lt-ltb, le-ltb}
@@ -11,12 +10,10 @@ use Rattle.refusal.specs.Check.{Check, silent, refused}
 use Rattle.refusal.specs.Outcome.{answered, absent, after}
 use Rattle.refusal.proofs.Laws.{after-quiet, after-said}
 use Rattle.index_layout.specs.declared.Layout.{Layout}
-use Rattle.index_layout.specs.Layout.{full, onPage, layoutFrom, layoutOf}
+use Rattle.index_layout.specs.Layout.{onPage, layoutFrom, layoutOf}
 use Rattle.index_open.specs.Open.{opening}
 use Rattle.index_open.proofs.Opened.{opened, full-positive, on-page-some}
-use Rattle.index_entry.specs.Entry.{valuesAt}
-use Rattle.index_entry.proofs.Laws as entry
-use Rattle.index_page.specs.Page.{firstEntry, valuesOf, pageIn, pageOutcome, greatestPage, pageOfNumber, PageOfNumber, EntriesOfPage}
+use Rattle.index_page.specs.Page.{valuesOf, pageIn, pageOutcome, greatestPage, pageOfNumber, PageOfNumber}
 
 -- the page against the count of pages
 module _ (s : List ℕ) (l : Layout) (p : ℕ) (quiet : opening s ≡ silent) (e : l ≡ layoutOf s) where
@@ -30,20 +27,6 @@ module _ (s : List ℕ) (l : Layout) (p : ℕ) (quiet : opening s ≡ silent) (e
   told values h v =
       ap answered (rw e at v)
       ∙ sym (after-quiet _ quiet ∙ ap (λ b. cond b (answered (valuesOf (layoutOf s) p)) (absent [])) (lt-ltb p (layoutOf s .pages) (rw e at h)))
-
--- entry first + i is the one in slot i
-pub entries-of-page : EntriesOfPage
-unfolding onPage
-entries-of-page s p i quiet less =
-    let l = layoutOf s in
-    let e = full l in
-    let some : 0 < e = omega arith in
-    let slot : i < e = omega arith in
-    let number : firstEntry l p + i ≡ p * e + i = omega arith in
-    let page-is : (p * e + i) / e ≡ p = mul-add-div-right some p i ∙ ap (λ q. p + q) (div-eq-of-lt slot) ∙ add-zero p in
-    let slot-is : (p * e + i) % e ≡ i = mul-add-mod-self-right p e i ∙ mod-eq-of-lt slot in
-    sym (entry.told s l (firstEntry l p + i) quiet refl (valuesAt s l p i) (omega arith)
-    (ap₂ (valuesAt s l) (sym (ap (λ k. k / e) number ∙ page-is)) (sym (ap (λ k. k % e) number ∙ slot-is))))
 
 -- no index has the greatest page
 pages-few : (s : List ℕ) → opening s ≡ silent → layoutOf s .pages ≤ greatestPage

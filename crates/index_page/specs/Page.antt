@@ -2,14 +2,15 @@
 use mathlib.Core.Path.{_≡_}
 use mathlib.Core.Bool.{cond}
 use mathlib.Core.List.{List, [], _∷_}
-use Prim.Native.Nat.{ℕ, _+_, _<_, min}
+use Prim.Native.Nat.{ℕ, _+_, _*_, _<_, min}
 use lib.Dec.{ltb}
+use Rattle.parts.specs.Part.{partAt}
 use Rattle.refusal.specs.Check.{silent}
 use Rattle.refusal.specs.Outcome.{Outcome, answered, absent, refusal, after}
 use Rattle.index_layout.specs.declared.Layout.{Layout}
-use Rattle.index_layout.specs.Layout.{pageSize, hashLength, onPage, entryNumber, pageAt, lastKeyAt, pageHashAt, layoutOf}
+use Rattle.index_layout.specs.Layout.{pageSize, hashLength, entrySize, onPage, entryNumber, pageAt, entryAt, lastKeyAt, pageHashAt, layoutOf}
+use Rattle.index_layout.specs.Entries.{listOf}
 use Rattle.index_open.specs.Open.{opening}
-use Rattle.index_entry.specs.Entry.{valuesAt, entryOutcome}
 use Rattle.index_page.specs.declared.Places.{Places}
 use Rattle.index_page.specs.declared.Answer.{Answer}
 use Rattle.index_page.specs.declared.Answer.the-variants.{Found, Absent, Refused}
@@ -36,7 +37,7 @@ valuesOf l p =
 unfoldable pub pageIn : Layout → ℕ → Outcome
 pageIn l p = cond (ltb p (l .pages)) (answered (valuesOf l p)) (absent [])
 
--- By 1 to 5 only (rule I31).
+-- By the opening checks alone (rule I31).
 abbrev pub pageOutcome : List ℕ → ℕ → Outcome
 pageOutcome s p = after (opening s) (pageIn (layoutOf s) p)
 
@@ -69,8 +70,9 @@ pageOfNumber number = min number greatestPage
 abbrev pub PageOfNumber : Type 0
 PageOfNumber = (s : List ℕ) (number : ℕ) → pageOutcome s (pageOfNumber number) ≡ pageOutcome s number
 
--- Entry `first + i`, by its number (rule I27), is the one in slot i of page p (rule I31).
+-- In the list, the entry with the number `first + i` is the one in slot i of page p (rules I15, I31).
 abbrev pub EntriesOfPage : Type 0
 EntriesOfPage =
-    (s : List ℕ) (p i : ℕ) → opening s ≡ silent → i < onPage (layoutOf s) p
-    → entryOutcome s (firstEntry (layoutOf s) p + i) ≡ answered (valuesAt s (layoutOf s) p i)
+    (s : List ℕ) (p i : ℕ) → opening s ≡ silent → p < layoutOf s .pages → i < onPage (layoutOf s) p
+    → partAt (listOf s) ((firstEntry (layoutOf s) p + i) * entrySize (layoutOf s)) (entrySize (layoutOf s))
+    ≡ partAt s (entryAt (layoutOf s) p i) (entrySize (layoutOf s))

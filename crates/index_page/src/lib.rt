@@ -11,8 +11,8 @@ ghost use Rattle.index_page.specs.Page as spec;
 // The greatest number that a `Page` holds.
 const GREATEST_PAGE: u64 = 4_294_967_295;
 
-// A page: its place, the places of its stored last key and hash and the key's length, the number of its first entry and how many
-// it has.
+// A page: its place, the places of its stored last key and hash and the key's length, the number of its first entry through the whole
+// file and how many it has.
 pub struct Places {
     pub page_at: usize,
     pub last_key_at: usize,
@@ -44,7 +44,7 @@ fn places_of(l: Layout, page: Page) -> Places
     }
 }
 
-// A page. Refusals 1 to 5; no page is checked.
+// A page. The opening checks; no page is checked.
 pub fn find(index: &[u8], page: Page) -> Answer
     ensures { λ r. ⌜ spec.outcome r ≡ spec.pageOutcome (now (index .entry)) (page .0) ⌝ }
 {

@@ -1,4 +1,4 @@
--- `index_page::find`: 1 to 5, then the page.
+-- `index_page::find`: the opening checks, then the page.
 use mathlib.Core.Path.{_≡_, sym}
 use mathlib.Core.List.{List}
 use Prim.Native.Nat.{ℕ}

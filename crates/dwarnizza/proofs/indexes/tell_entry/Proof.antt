@@ -17,7 +17,7 @@ returns-2 c = crosses-as (sym (ap outcome (c .before .enum-told .given .1))) (re
 
 returns-3 : tie.Need-returns-3
 unfolding outcome result
-returns-3 c = crosses-as (sym (ap outcome (c .before .before .told2 .given .1))) (record { result-is = refl; words-are = c .numbered-words .ensures })
+returns-3 c = crosses-as (sym (ap outcome (c .before .before .told2 .given .1))) (record { result-is = refl; words-are = c .slot-words .ensures })
 
 pub tell-entry-spec : {M : Type 1} → statement M
 tell-entry-spec =
