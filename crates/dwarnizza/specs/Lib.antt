@@ -1,5 +1,4 @@
 pub mod Envelopes
-pub mod FileNumbers
 pub mod Indexes
 pub mod Keys
 pub mod Md5State

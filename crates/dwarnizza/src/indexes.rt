@@ -1,14 +1,14 @@
 // Archive indexes.
-use crate::answer::entry_words;
-use crate::answer::layout_words;
-use crate::answer::page_words;
-use crate::answer::slot_words;
 use crate::narrow::narrow_settings;
+use answers::indexes::tell_bound;
+use answers::indexes::tell_entry;
+use answers::indexes::tell_layout;
+use answers::indexes::tell_lookup;
+use answers::indexes::tell_page;
+use answers::words::layout_words;
 use crossing::refused;
 use crossing::tell_bytes;
 use index_layout::FOOTER_SIZE;
-use index_lookup::Answer;
-use index_lookup::Bounded;
 use index_open::Checked;
 ghost use mathlib.Core.Path.{_≡_};
 ghost use lib.ListN.{length};
@@ -24,25 +24,8 @@ ghost use Rattle.index_file.specs.File.{fileOf};
 ghost use Rattle.index_writer.specs.Write.{layoutFor, writeCheck, writeOutcome, lengthOutcome};
 ghost use Rattle.index_list_entry.specs.Put.{locationOf, entryBytes, putCheck, putOutcome};
 ghost use Rattle.listing.specs.Listing.{textOf, listingCheck, listingOutcome, fitted};
-ghost use Rattle.index_entry.specs.Entry as entries;
-ghost use Rattle.index_page.specs.Page as pages;
-ghost use Rattle.index_lookup.specs.Lookup as lookups;
-ghost use Rattle.index_open.specs.Open as layouts;
 ghost use Rattle.crossing.specs.Crossing.{Crosses, testOutcome};
 ghost use Rattle.dwarnizza.specs.Indexes.{settingsFrom, footerOutcome};
-
-// Lays out what a check that tells a layout answers.
-fn tell_layout(told: Checked, answer: &mut [u64; 8]) -> u32
-    ensures { λ r. ⌜ Crosses (layouts.outcome told) r (now (answer .exit)) ⌝ }
-{
-    match told {
-        Checked::Refused(r) => refused(r, answer),
-        Checked::Passed(l) => {
-            *answer = layout_words(l);
-            0
-        }
-    }
-}
 
 // The full check: version, offset width, key length, entries and pages.
 #[no_mangle]
@@ -58,23 +41,6 @@ pub extern "C" fn dwarnizza_index_settings(index: &[u8], answer: &mut [u64; 8]) 
     ensures { λ r. ⌜ Crosses (openOutcome (now (index .entry))) r (now (answer .exit)) ⌝ }
 {
     tell_layout(index_open::open(index), answer)
-}
-
-// Lays out what an entry by page and slot answers.
-fn tell_entry(told: index_entry::Answer, answer: &mut [u64; 8]) -> u32
-    ensures { λ r. ⌜ Crosses (entries.outcome told) r (now (answer .exit)) ⌝ }
-{
-    match told {
-        index_entry::Answer::Refused(r) => refused(r, answer),
-        index_entry::Answer::Absent => {
-            *answer = [0u64; 8];
-            1
-        }
-        index_entry::Answer::Found(e) => {
-            *answer = slot_words(e);
-            0
-        }
-    }
 }
 
 // The entry in a slot of a page: place of the key, its length, size, archive number, offset, page and slot.
@@ -116,23 +82,6 @@ pub extern "C" fn dwarnizza_index_loose(index: &[u8], answer: &mut [u64; 8]) -> 
     if index_open::is_loose(index) { 0 } else { 1 }
 }
 
-// Lays out what a page answers.
-fn tell_page(told: index_page::Answer, answer: &mut [u64; 8]) -> u32
-    ensures { λ r. ⌜ Crosses (pages.outcome told) r (now (answer .exit)) ⌝ }
-{
-    match told {
-        index_page::Answer::Refused(r) => refused(r, answer),
-        index_page::Answer::Absent => {
-            *answer = [0u64; 8];
-            1
-        }
-        index_page::Answer::Found(p) => {
-            *answer = page_words(p);
-            0
-        }
-    }
-}
-
 // A page: place and length of the page, of its last key and of its hash, its first entry, and how many it has.
 #[no_mangle]
 pub extern "C" fn dwarnizza_index_page(index: &[u8], page: u64, answer: &mut [u64; 8]) -> u32
@@ -154,42 +103,12 @@ pub extern "C" fn dwarnizza_index_list(
     tell_bytes(index_list::list(index, output), answer)
 }
 
-// Lays out what a lookup answers.
-fn tell_lookup(told: Answer, answer: &mut [u64; 8]) -> u32
-    ensures { λ r. ⌜ Crosses (lookups.outcome told) r (now (answer .exit)) ⌝ }
-{
-    match told {
-        Answer::Refused(r) => refused(r, answer),
-        Answer::Absent(n) => {
-            *answer = [0, 0, 0, 0, n as u64, 0, 0, 0];
-            1
-        }
-        Answer::Found(e) => {
-            *answer = entry_words(e);
-            0
-        }
-    }
-}
-
 // The lookup of a key: page, slot, size, location and comparisons; of an absent key, the comparisons.
 #[no_mangle]
 pub extern "C" fn dwarnizza_index_lookup(index: &[u8], key: &[u8], answer: &mut [u64; 8]) -> u32
     ensures { λ r. ⌜ Crosses (lookupOf (now (index .entry)) (now (key .entry))) r (now (answer .exit)) ⌝ }
 {
     tell_lookup(index_lookup::lookup(index, key), answer)
-}
-
-// Lays out what a bound answers.
-fn tell_bound(told: Bounded, answer: &mut [u64; 8]) -> u32
-    ensures { λ r. ⌜ Crosses (lookups.boundOutcome told) r (now (answer .exit)) ⌝ }
-{
-    match told {
-        Bounded::Refused(r) => refused(r, answer),
-        Bounded::Comparisons(n) => {
-            *answer = [n as u64, 0, 0, 0, 0, 0, 0, 0];
-            0
-        }
-    }
 }
 
 // The most stored keys that a lookup in an index compares.

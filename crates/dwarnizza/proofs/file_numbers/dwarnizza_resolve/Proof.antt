@@ -2,7 +2,7 @@
 use mathlib.Core.Path.{ap}
 use borrow.Author.Needs.{needs}
 use Rattle.crossing.proofs.Laws.{crosses-beside}
-use Rattle.dwarnizza.specs.FileNumbers.{chainOutcome, refusingLink}
+use Rattle.answers.specs.Chain.{chainOutcome, refusingLink}
 use Rattle.dwarnizza.proofs.file_numbers.dwarnizza_resolve.Statement.{statement}
 use Rattle.dwarnizza.proofs.file_numbers.dwarnizza_resolve.Tie as tie
 

@@ -1,0 +1,6 @@
+// What the library's calls answer, laid out for C as a result and eight words.
+pub mod encodings;
+pub mod file_numbers;
+pub mod indexes;
+pub mod words;
+pub mod worklists;
