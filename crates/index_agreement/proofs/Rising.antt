@@ -45,13 +45,13 @@ module _ (s : List ℕ) (l : Layout) (passed : pagesCheck s l ≡ silent) where
         let order = from-each (orderCheck s l p) 0 (onPage l p) (first-left _ (lastKeyCheck s l p) rest-silent) i m in
         silent-test _ index-order _ (rw zero-add at order)
 
-    next-below : (i : ℕ) → suc i < onPage l p → compared (keyAt s l p i) (keyAt s l p (suc i)) ≡ Below
+    pub next-below : (i : ℕ) → suc i < onPage l p → compared (keyAt s l p i) (keyAt s l p (suc i)) ≡ Below
     next-below i m =
         let one : i ≡ suc i - 1 = omega arith in
         isBelow-true _
         (not-false _ (sym (not-above-next s l p (suc i) _ _ _ (omega arith) refl (ap (keyAt s l p) one) refl) ∙ above (suc i) m))
 
-  over-below : (p : ℕ) → suc p < l .pages → 0 < onPage l (suc p) → compared (keyAt s l p (onPage l p - 1)) (keyAt s l (suc p) 0) ≡ Below
+  pub over-below : (p : ℕ) → suc p < l .pages → 0 < onPage l (suc p) → compared (keyAt s l p (onPage l p - 1)) (keyAt s l (suc p) 0) ≡ Below
   over-below p h some =
       let one : p ≡ suc p - 1 = omega arith in
       isBelow-true _
