@@ -7,7 +7,7 @@ use Rattle.md5.specs.Message.{littleBytes}
 use Rattle.refusal.specs.Check.{refusedIf, first, firstFrom}
 use Rattle.refusal.specs.Outcome.{after}
 use Rattle.text.specs.Text.{ascii}
-use Rattle.root_layout.specs.Layout.{headerSize}
+use Rattle.root_layout.specs.Layout.{headerSize, layoutFor}
 use Rattle.root_layout.specs.Header.{hasMagic, longNumbers, layoutOf, headerCheck, layoutValues}
 use Rattle.root_block.specs.Ids.{signed, deltaAt, idAt, inRange, idCheck, idsCheck}
 use Rattle.root_block.specs.Block.{blockOf, blockSize, deltasOf, keyAt, counts, cutCheck, blockCheck}
@@ -17,7 +17,7 @@ use Rattle.examples.specs.Examples.{EachHolds, m5, m6, m7, m8, m10}
 use Rattle.examples.proofs.Laws.{each}
 
 pub root-rows : EachHolds m5 × EachHolds m6 × EachHolds m7 × EachHolds m8 × EachHolds m10
-unfolding lookupOf foundIn wanted isId recordsIn recordsFrom recordAt rootCheck blocksCheck blocksFrom blockCheck cutCheck counts keyAt deltasOf blockSize blockOf idsCheck idCheck inRange idAt deltaAt signed headerCheck layoutOf longNumbers hasMagic layoutValues headerSize ascii after refusedIf first firstFrom littleBytes littleAt within sameBytes
+unfolding lookupOf foundIn wanted isId recordsIn recordsFrom recordAt rootCheck blocksCheck blocksFrom blockCheck cutCheck counts keyAt deltasOf blockSize blockOf idsCheck idCheck inRange idAt deltaAt signed headerCheck layoutOf longNumbers hasMagic layoutValues layoutFor headerSize ascii after refusedIf first firstFrom littleBytes littleAt within sameBytes
 root-rows = (
   each m5 (refl, (refl, (refl, (refl, tt)))),
   each m6 (refl, (refl, tt)),

@@ -4,7 +4,7 @@ use mathlib.Core.List.{List, [], _∷_, _++_}
 use Prim.Native.Nat.{ℕ}
 use lib.ListN.{replicate}
 use Rattle.root_layout.specs.declared.Layout.{Layout}
-use Rattle.root_layout.specs.Layout.{headerSize, version1, later}
+use Rattle.root_layout.specs.Layout.{headerSize, layoutFor}
 use Rattle.root_block.specs.declared.Block.{Block}
 use Rattle.root_block.specs.Block.{blockOf, blockSize, keyAt, hashAt}
 use Rattle.examples.specs.Examples.{Row, _is_, EachHolds}
@@ -24,12 +24,12 @@ wideHeader = (3 ∷ 0 ∷ 0 ∷ 0 ∷ []) ++ (2 ∷ 0 ∷ 0 ∷ 0 ∷ []) ++ (1 
 -- header 17, deltas 12, three keys, then the name hashes. Five bytes of content flags are one number, and the header has 13 bytes.
 abbrev pub blockRows : List Row
 blockRows =
-    (keyAt version1 three 1 is 48)
-    ∷ (hashAt version1 three 1 is 64)
-    ∷ (blockSize version1 three is 96)
-    ∷ (keyAt (later 12) three 1 is 45)
-    ∷ (hashAt (later 12) three 1 is 85)
-    ∷ (blockSize (later 12) three is 101)
+    (keyAt (layoutFor 0 1) three 1 is 48)
+    ∷ (hashAt (layoutFor 0 1) three 1 is 64)
+    ∷ (blockSize (layoutFor 0 1) three is 96)
+    ∷ (keyAt (layoutFor 12 2) three 1 is 45)
+    ∷ (hashAt (layoutFor 12 2) three 1 is 85)
+    ∷ (blockSize (layoutFor 12 2) three is 101)
     ∷ (headerSize wide is 13)
     ∷ (blockOf wide wideHeader is record { count = 3; locale = 2; content = 21542142465 })
     ∷ []

@@ -17,8 +17,9 @@ use Rattle.refusal.proofs.Laws.{answered-after, refusal-after}
 use Rattle.root_layout.specs.declared.Layout.{Layout}
 use Rattle.root_layout.specs.declared.Opened.{Opened}
 use Rattle.root_layout.specs.declared.Opened.the-variants.{Passed, Refused}
-use Rattle.root_layout.specs.Layout.{version1, later}
-use Rattle.root_layout.specs.Header.{hasMagic, headerBytes, version, shortHeader, leastLong, mostLong, leastVersion, mostVersion, refusedVersion, leastSize, longNumbers, layoutOf, headerCheck, layoutValues, openOutcome, outcome}
+use Rattle.root_layout.specs.Layout.{noMagicVersion, shortVersion, layoutFor}
+use Rattle.root_layout.specs.Header.{hasMagic, headerBytes, version, shortHeader, leastLong, mostLong, leastVersion, mostVersion}
+use Rattle.root_layout.specs.Header.{refusedVersion, leastSize, longNumbers, layoutOf, headerCheck, layoutValues, openOutcome, outcome}
 
 -- a number of four bytes
 pub word-fits : (s : List ℕ) (at r : ℕ) → ((i : ℕ) → byteAt s i < 256) → r ≡ littleAt s at 4 → r < 2 ^ 32
@@ -40,7 +41,7 @@ module _ (s : List ℕ) (a : ℕ) (p : Bool) (e : a ≡ headerBytes s) (in-size 
 -- ---- what opening tells, test by test
 
 module _ (s : List ℕ) where
-  pub open-plain : hasMagic s ≡ false → openOutcome s ≡ answered (layoutValues version1)
+  pub open-plain : hasMagic s ≡ false → openOutcome s ≡ answered (layoutValues (layoutFor 0 noMagicVersion))
   unfolding headerCheck refusedIf first after layoutOf
   open-plain m = rw m
 
@@ -50,7 +51,7 @@ module _ (s : List ℕ) where
     open-cut l = rw (m, lt-ltb _ _ l)
 
     module _ (l : shortHeader ≤ length s) where
-      pub open-short : longNumbers s ≡ false → openOutcome s ≡ answered (layoutValues (later shortHeader))
+      pub open-short : longNumbers s ≡ false → openOutcome s ≡ answered (layoutValues (layoutFor shortHeader shortVersion))
       unfolding headerCheck refusedIf first after layoutOf
       open-short n = rw (m, le-ltb _ _ l, n)
 
@@ -69,7 +70,7 @@ module _ (s : List ℕ) where
             unfolding headerCheck refusedIf first after
             open-long-cut e = rw (m, le-ltb _ _ l, n, ne-eqb _ _ v, le-ltb _ _ z, lt-ltb _ _ e)
 
-            pub open-long : headerBytes s ≤ length s → openOutcome s ≡ answered (layoutValues (later (headerBytes s)))
+            pub open-long : headerBytes s ≤ length s → openOutcome s ≡ answered (layoutValues (layoutFor (headerBytes s) (version s)))
             unfolding headerCheck refusedIf first after layoutOf
             open-long e = rw (m, le-ltb _ _ l, n, ne-eqb _ _ v, le-ltb _ _ z, le-ltb _ _ e)
 
@@ -86,7 +87,8 @@ told true false e = absurd (omega arith)
 told false true e = absurd (omega arith)
 told false false e = refl
 
-pub passed-layout : (k : Check) (l m : Layout) (v : Opened) → outcome v ≡ after k (answered (layoutValues m)) → v ≡ Passed l → (k ≡ silent) × (l ≡ m)
+pub passed-layout : (k : Check) (l m : Layout) (v : Opened)
+    → outcome v ≡ after k (answered (layoutValues m)) → v ≡ Passed l → (k ≡ silent) × (l ≡ m)
 unfolding outcome layoutValues tell
 passed-layout k l m v e g =
     let a : (k ≡ silent) × (layoutValues l ≡ layoutValues m) = answered-after k (layoutValues l) (layoutValues m) (sym (ap outcome g) ∙ e) in
@@ -108,6 +110,7 @@ passed-layout k l m v e g =
       },
     )
 
-pub refused-layout : (k : Check) (m : Layout) (v : Opened) {r : Refusal} → outcome v ≡ after k (answered (layoutValues m)) → v ≡ Refused r → k ≡ refused (r .number) (r .place)
+pub refused-layout : (k : Check) (m : Layout) (v : Opened) {r : Refusal}
+    → outcome v ≡ after k (answered (layoutValues m)) → v ≡ Refused r → k ≡ refused (r .number) (r .place)
 unfolding outcome
 refused-layout k m v {r} e g = refusal-after k (r .number) (r .place) (layoutValues m) (sym (ap outcome g) ∙ e)

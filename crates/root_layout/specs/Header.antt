@@ -12,7 +12,7 @@ use Rattle.refusal.specs.Outcome.{Outcome, answered, refusal, after}
 use Rattle.root_layout.specs.declared.Layout.{Layout}
 use Rattle.root_layout.specs.declared.Opened.{Opened}
 use Rattle.root_layout.specs.declared.Opened.the-variants.{Passed, Refused}
-use Rattle.root_layout.specs.Layout.{version1, later}
+use Rattle.root_layout.specs.Layout.{noMagicVersion, shortVersion, layoutFor}
 
 -- "MFST" or "TSFM" in front (rule R1).
 abbrev pub mfst : List ℕ
@@ -59,9 +59,17 @@ longNumbers s = within (headerBytes s) leastLong mostLong && within (version s) 
 abbrev pub isLong : List ℕ → Bool
 isLong s = hasMagic s && longNumbers s
 
--- How the blocks are laid out (rules R2, R7, R8).
+-- Where the blocks begin, and by which version they are laid out: without magic (rule R2), after a long header (rule R4), after a
+-- short one (rule R5).
+abbrev pub blocksStart : List ℕ → ℕ
+blocksStart s = cond (hasMagic s) (cond (longNumbers s) (headerBytes s) shortHeader) 0
+
+abbrev pub blocksVersion : List ℕ → ℕ
+blocksVersion s = cond (hasMagic s) (cond (longNumbers s) (version s) shortVersion) noMagicVersion
+
+-- How the blocks are laid out (rules R7, R8).
 unfoldable pub layoutOf : List ℕ → Layout
-layoutOf s = cond (hasMagic s) (later (cond (longNumbers s) (headerBytes s) shortHeader)) version1
+layoutOf s = layoutFor (blocksStart s) (blocksVersion s)
 
 -- 43: under 12 bytes with a magic (rule R11).
 abbrev pub shortCheck : List ℕ → Check

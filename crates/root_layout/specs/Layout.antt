@@ -1,6 +1,7 @@
 -- How the blocks of a root file are laid out, as a value: rules R7 and R8.
 use mathlib.Core.Bool.{true, false, cond}
 use Prim.Native.Nat.{ℕ, _+_}
+use lib.Dec.{eqb}
 use Rattle.root_layout.specs.declared.Layout.{Layout}
 
 -- The bytes of a block header's count and locale flags, of its content flags (four; no file of today has five), and of the unknown
@@ -38,11 +39,10 @@ headerSize l = countSize + localeSize + contentSize l + l .unknown
 abbrev pub noNameHashes : ℕ
 noNameHashes = 8192
 
--- Version 1, blocks from byte 0 (rule R2): count, content flags, locale flags, deltas, then for each record key and name hash
--- (rule R7).
-abbrev pub version1 : Layout
-version1 = record {
-  start = 0;
+-- Version 1: count, content flags, locale flags, deltas, then for each record key and name hash (rule R7).
+abbrev pub version1 : ℕ → Layout
+version1 start = record {
+  start = start;
   «locale_first» = false;
   «wide_content» = false;
   unknown = 0;
@@ -50,8 +50,8 @@ version1 = record {
   «no_hashes» = 0;
 }
 
--- All others, blocks after the header: count, locale flags, content flags, 4 and 1 unknown bytes, deltas, all keys, then all
--- name hashes unless content bit 13 is set (rule R8).
+-- All others: count, locale flags, content flags, 4 and 1 unknown bytes, deltas, all keys, then all name hashes unless content bit 13
+-- is set (rule R8).
 abbrev pub later : ℕ → Layout
 later start = record {
   start = start;
@@ -61,3 +61,14 @@ later start = record {
   interleaved = false;
   «no_hashes» = noNameHashes;
 }
+
+-- The version that the blocks of a file without magic are laid out by (rule R2), and that of a file with a short header (rule R5).
+abbrev pub noMagicVersion : ℕ
+noMagicVersion = 1
+
+abbrev pub shortVersion : ℕ
+shortVersion = 2
+
+-- The layout of blocks of a version that begin at a byte.
+unfoldable pub layoutFor : (start version : ℕ) → Layout
+layoutFor start version = cond (eqb version noMagicVersion) (version1 start) (later start)

@@ -36,6 +36,11 @@ pub const LEAST_SIZE: u32 = 20;
 
 pub const REFUSED_VERSION: u32 = 4;
 
+// The versions that the blocks of a file without magic, and of one with a short header, are laid out by.
+pub const NO_MAGIC_VERSION: u32 = 1;
+
+pub const SHORT_VERSION: u32 = 2;
+
 // The bytes of a block header's count and locale flags, of its content flags, and of the unknown bytes after them.
 pub const COUNT_SIZE: usize = 4;
 
@@ -123,24 +128,20 @@ pub fn word(s: &[u8], at: usize) -> u32
     little(s, at, 4) as u32
 }
 
-// The layout of a file without magic.
-fn version1() -> Layout
-    ensures { λ r. ⌜ r ≡ spec.version1 ⌝ }
+// The layout of blocks of a version that begin at a byte.
+fn layout_for(start: u32, version: u32) -> Layout
+    ensures { λ r. ⌜ r ≡ spec.layoutFor start version ⌝ }
 {
-    Layout {
-        start: 0,
-        locale_first: false,
-        wide_content: false,
-        unknown: 0,
-        interleaved: true,
-        no_hashes: 0,
+    if version == NO_MAGIC_VERSION {
+        return Layout {
+            start,
+            locale_first: false,
+            wide_content: false,
+            unknown: 0,
+            interleaved: true,
+            no_hashes: 0,
+        };
     }
-}
-
-// The layout of a file with magic and a header of `start` bytes.
-fn later(start: u32) -> Layout
-    ensures { λ r. ⌜ r ≡ spec.later start ⌝ }
-{
     Layout {
         start,
         locale_first: true,
@@ -183,15 +184,16 @@ pub fn open(file: &[u8]) -> Opened
     ensures { λ r. ⌜ header.outcome r ≡ header.openOutcome (now (file .entry)) ⌝ }
 {
     if !has_magic(file) {
-        return Opened::Passed(version1());
+        return Opened::Passed(layout_for(0, NO_MAGIC_VERSION));
     }
     if file.len() < SHORT_HEADER as usize {
         return refused(ROOT_HEADER_CUT);
     }
     if !long_numbers(file) {
-        return Opened::Passed(later(SHORT_HEADER));
+        return Opened::Passed(layout_for(SHORT_HEADER, SHORT_VERSION));
     }
-    if word(file, VERSION_AT) == REFUSED_VERSION {
+    let version = word(file, VERSION_AT);
+    if version == REFUSED_VERSION {
         return refused(ROOT_VERSION);
     }
     let size = word(file, HEADER_SIZE_AT);
@@ -201,5 +203,5 @@ pub fn open(file: &[u8]) -> Opened
     if file.len() < size as usize {
         return refused(ROOT_HEADER_CUT);
     }
-    Opened::Passed(later(size))
+    Opened::Passed(layout_for(size, version))
 }

@@ -5,25 +5,23 @@ use borrow.Author.Needs.{needs}
 use Rattle.root_layout.proofs.long_numbers.Statement.{statement}
 use Rattle.root_layout.proofs.long_numbers.Tie as tie
 
-word-requires : tie.Need-word-requires
-word-requires c κs = search needs
-
-within-requires : tie.Need-within-requires
-within-requires c κs = search needs
-
 returns : tie.Need-returns
 returns c = size-short _ _ _ (c .before .before .word .ensures) (c .before .within .ensures) (not-true _ (c .if1 .taken))
 
-word-requires-2 : tie.Need-word-requires-2
-word-requires-2 c κs = search needs
-
-within-requires-2 : tie.Need-within-requires-2
-within-requires-2 c κs = search needs
-
 returns-2 : tie.Need-returns-2
-returns-2 c = size-long _ _ _ (c .before .before .before .before .word .ensures) (c .before .before .before .within .ensures) _ _ (not-false _ (c .before .before .if1 .left)) (c .before .word2 .ensures) (c .within2 .ensures)
+returns-2 c =
+    let else1 = c .before .before in
+    let size = else1 .before in
+    size-long _ _ _ (size .before .word .ensures) (size .within .ensures) _ _ (not-false _ (else1 .if1 .left)) (c .before .word2 .ensures)
+    (c .within2 .ensures)
 
 pub long-numbers-spec : {M : Type 1} → statement M
 long-numbers-spec =
     tie.close
-    (tie.spec word-requires within-requires returns word-requires-2 within-requires-2 returns-2)
+    (tie.spec
+    (λ c κs. search needs)
+    (λ c κs. search needs)
+    returns
+    (λ c κs. search needs)
+    (λ c κs. search needs)
+    returns-2)

@@ -3,17 +3,8 @@ use borrow.Author.Needs.{needs}
 use Rattle.root_layout.proofs.Layout.locale_at.Statement.{statement}
 use Rattle.root_layout.proofs.Layout.locale_at.Tie as tie
 
-content-size-requires : tie.Need-content-size-requires
-content-size-requires c κs = search needs
-
-add-result : tie.Need-add-result
-add-result c = search needs
-
-returns : tie.Need-returns
-returns c = search needs
-
 returns-2 : tie.Need-returns-2
 returns-2 c = rw (c .before .if1 .left, ← c .content-size .ensures .0)
 
 pub locale-at-spec : {M : Type 1} → statement M
-locale-at-spec = tie.close (tie.spec content-size-requires add-result returns returns-2)
+locale-at-spec = tie.close (tie.spec (λ c κs. search needs) (λ c. search needs) (λ c. search needs) returns-2)
