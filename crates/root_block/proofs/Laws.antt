@@ -15,7 +15,7 @@ use Rattle.root_layout.specs.declared.Layout.{Layout}
 use Rattle.root_layout.specs.Layout.{headerSize}
 use Rattle.root_block.specs.declared.Block.{Block}
 use Rattle.root_block.specs.Ids.{idsCheck}
-use Rattle.root_block.specs.Block.{blockOf, hashSize, blockSize, deltasOf, keysAt, keyAt, hashAt, cutCheck, blockCheck}
+use Rattle.root_block.specs.Block.{nameHashSize, blockOf, hasHashes, hashSize, blockSize, deltasOf, keysAt, keyAt, hashAt, cutCheck, blockCheck}
 
 -- the same number of bytes for each of a count of records
 pub bytes-fit : (k n m : ℕ) → k ≤ m → n ≤ 4294967295 → k * n ≤ m * 4294967295
@@ -29,7 +29,8 @@ content-whole false = refl
 -- ---- where keys and name hashes stand
 
 module _ (l : Layout) (k : Block) (i : ℕ) where
-  pub key-interleaved : (keys hash : ℕ) → l .interleaved ≡ true → keys ≡ keysAt l k → hash ≡ hashSize l k → keys + (16 + hash) * i ≡ keyAt l k i
+  pub key-interleaved : (keys hash : ℕ) → l .interleaved ≡ true → keys ≡ keysAt l k → hash ≡ hashSize l k
+      → keys + (16 + hash) * i ≡ keyAt l k i
   unfolding keyAt
   key-interleaved keys hash t e h = rw (e, h) (sym (ap (λ x. keysAt l k + cond x (16 + hashSize l k) 16 * i) t))
 
@@ -79,7 +80,7 @@ unfolding deltasOf
 deltas-length l b h =
     partAt-inside b (headerSize l) (4 * blockOf l b .count) (omega (arith, h, block-holds l (blockOf l b)))
 
--- a record's key is a part of the block
+-- a record's key is a part of the block, and so is its name hash where the block has them
 module _ (l : Layout) (k : Block) (i : ℕ) (h : i < k .count) where
   stride : (t : Bool) (w : ℕ) → cond t (16 + w) 16 * i + 16 ≤ (16 + w) * k .count
   stride true w = omega (arith, mul-le-mul-left (16 + w) h, mul-suc (16 + w) i)
@@ -90,3 +91,12 @@ module _ (l : Layout) (k : Block) (i : ℕ) (h : i < k .count) where
   pub key-inside : keyAt l k i + 16 ≤ blockSize l k
   unfolding keyAt blockSize
   key-inside = omega (arith, stride (l .interleaved) (hashSize l k))
+
+  hashed : (t : Bool) (w : ℕ) → w ≡ 8
+      → cond t (keysAt l k + cond t (16 + w) 16 * i + 16) (keysAt l k + 16 * k .count + 8 * i) + 8 ≤ headerSize l + (20 + w) * k .count
+  hashed true w e = rw e (omega arith)
+  hashed false w e = rw e (omega arith)
+
+  pub hash-inside : hasHashes l k ≡ true → hashAt l k i + nameHashSize ≤ blockSize l k
+  unfolding hashAt keyAt blockSize
+  hash-inside e = hashed (l .interleaved) (hashSize l k) (ap (λ t. cond t nameHashSize 0) e)

@@ -29,9 +29,13 @@ blockOf l b = record {
   content = littleAt b (contentAt l) (contentSize l);
 }
 
--- The bytes that a record's name hash takes: none where a content bit drops the name hashes (rule R8).
+-- A block has name hashes unless a content bit drops them (rule R8).
+abbrev pub hasHashes : Layout → Block → Bool
+hasHashes l k = eqb (bitAnd (k .content) (l .«no_hashes»)) 0
+
+-- The bytes that a record's name hash takes.
 abbrev pub hashSize : Layout → Block → ℕ
-hashSize l k = cond (eqb (bitAnd (k .content) (l .«no_hashes»)) 0) nameHashSize 0
+hashSize l k = cond (hasHashes l k) nameHashSize 0
 
 -- The bytes of a block: header, deltas, keys and name hashes (rules R7, R8).
 unfoldable pub blockSize : Layout → Block → ℕ

@@ -42,12 +42,19 @@ impl Block {
         }
     }
 
-    // The bytes of a name hash; none where a content bit drops them.
+    // Whether the block has name hashes: a content bit drops them.
+    pub fn has_hashes(self, l: Layout) -> bool
+        ensures { λ r. ⌜ r ≡ spec.hasHashes l self ⌝ }
+    {
+        self.content & l.no_hashes == 0
+    }
+
+    // The bytes that a record's name hash takes.
     fn hash_size(self, l: Layout) -> usize
         ensures { λ r. ⌜ r ≡ spec.hashSize l self ⌝ }
         ensures { λ r. ⌜ r ≤ 8 ⌝ }
     {
-        if self.content & l.no_hashes == 0 {
+        if self.has_hashes(l) {
             return NAME_HASH_SIZE;
         }
         0

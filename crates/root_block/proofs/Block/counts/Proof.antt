@@ -10,11 +10,15 @@ use Rattle.root_block.proofs.Block.counts.Tie as tie
 
 returns : tie.Need-returns
 unfolding counts
-returns c = sym (ap (λ t. not t && eqb (bitAnd (c .before .before .args .self .content) (c .before .before .args .unwanted)) 0) (eq-eqb _ 0 (c .if1 .taken)))
+returns c =
+    let a = c .before .before .args in
+    sym (ap (λ t. not t && eqb (bitAnd (a .self .content) (a .unwanted)) 0) (eq-eqb _ 0 (c .if1 .taken)))
 
 returns-2 : tie.Need-returns-2
 unfolding counts
-returns-2 c = sym (ap (λ t. not t && eqb (bitAnd (c .before .before .before .args .self .content) (c .before .before .before .args .unwanted)) 0) (ne-eqb _ 0 (c .before .if1 .left)))
+returns-2 c =
+    let a = c .before .before .before .args in
+    sym (ap (λ t. not t && eqb (bitAnd (a .self .content) (a .unwanted)) 0) (ne-eqb _ 0 (c .before .if1 .left)))
 
 pub counts-spec : {M : Type 1} → statement M
 counts-spec = tie.close (tie.spec returns returns-2)

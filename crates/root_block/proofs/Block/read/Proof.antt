@@ -9,24 +9,6 @@ use borrow.Author.Needs.{needs}
 use Rattle.root_block.proofs.Block.read.Statement.{statement}
 use Rattle.root_block.proofs.Block.read.Tie as tie
 
-word-requires : tie.Need-word-requires
-word-requires c κs = search needs
-
-locale-at-requires : tie.Need-locale-at-requires
-locale-at-requires c κs = search needs
-
-word-requires-2 : tie.Need-word-requires-2
-word-requires-2 c κs = search needs
-
-content-at-requires : tie.Need-content-at-requires
-content-at-requires c κs = search needs
-
-content-size-requires : tie.Need-content-size-requires
-content-size-requires c κs = search needs
-
-little-requires : tie.Need-little-requires
-little-requires c κs = search needs
-
 returns : tie.Need-returns
 unfolding blockOf
 returns c =
@@ -43,10 +25,10 @@ pub read-spec : {M : Type 1} → statement M
 read-spec =
     tie.close
     (tie.spec
-    word-requires
-    locale-at-requires
-    word-requires-2
-    content-at-requires
-    content-size-requires
-    little-requires
+    (λ c κs. search needs)
+    (λ c κs. search needs)
+    (λ c κs. search needs)
+    (λ c κs. search needs)
+    (λ c κs. search needs)
+    (λ c κs. search needs)
     returns)

@@ -6,17 +6,8 @@ use borrow.Author.Needs.{needs}
 use Rattle.root_block.proofs.ids.delta.Statement.{statement}
 use Rattle.root_block.proofs.ids.delta.Tie as tie
 
-number-of-requires : tie.Need-number-of-requires
-number-of-requires c κs = search needs
-
-cast-result : tie.Need-cast-result
-cast-result c = search needs
-
 returns : tie.Need-returns
 returns c = signed-low (c .before .number-of .result) (c .if1 .taken) ∙ ap signed (c .before .number-of .ensures)
-
-cast-result-2 : tie.Need-cast-result-2
-cast-result-2 c = search needs
 
 sub-result : tie.Need-sub-result
 sub-result c = high-wide (c .before .number-of .result) (c .if1 .left) (c .before .number-of .ok)
@@ -31,10 +22,10 @@ pub delta-spec : {M : Type 1} → statement M
 delta-spec =
     tie.close
     (tie.spec
-    number-of-requires
-    cast-result
+    (λ c κs. search needs)
+    (λ c. search needs)
     returns
-    cast-result-2
+    (λ c. search needs)
     sub-result
     cast-result-3
     returns-2)
