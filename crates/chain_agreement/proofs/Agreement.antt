@@ -1,17 +1,16 @@
 -- The chain on three checked files that fit each other, as specs/Agreement.antt states it: link by link, from the last.
 use mathlib.Core.Path.{_≡_, refl, sym, ap, _∙_, subst}
-use mathlib.Core.Bool.{Bool}
 use mathlib.Core.List.{List, [], _∷_}
 use Prim.Native.Nat.{ℕ, _≤_}
 use native.Mathlib.Nat.{add-zero, mul-le-mul-right}
 use native.Mathlib.Omega.{arith}
 use lib.ListN.{length, take}
-use Rattle.parts.proofs.Laws.{by-test, partAt-inside, part-of-part}
+use Rattle.parts.proofs.Laws.{partAt-inside, part-of-part}
 use Rattle.refusal.specs.Outcome.{Outcome, answered, absent, refusal}
 use Rattle.refusal.proofs.Laws.{passed-is, after-quiet}
 use Rattle.root.specs.Root.{rootCheck}
 use Rattle.root.specs.Lookup as rootFile
-use Rattle.root.specs.Lookup.{Record, records, wanted, foundIn, keyOr}
+use Rattle.root.specs.Lookup.{records, First, none, this, firstOf, wanted, keyTold, keyOr}
 use Rattle.root.proofs.First.{root-passed}
 use Rattle.root_layout.specs.Header as rootHeader
 use Rattle.encoding_header.specs.declared.Kind.the-variants.{Content}
@@ -59,14 +58,10 @@ linked-unrefused link (answered values) f h later = later values
 linked-unrefused link (absent values) f h later = λ l number place e. let z : _≡_ {A = ℕ} 0 1 = cc in omega arith
 linked-unrefused link (refusal n p) f h later = absurd (h n p refl)
 
-root-unrefused : (want : Record → Bool) (rs : List Record) (number place : ℕ) → foundIn want rs ≡ refusal number place → ⊥
-unfolding foundIn
-root-unrefused want [] number place e = let z : _≡_ {A = ℕ} 0 1 = cc in omega arith
-root-unrefused want (r ∷ rs) number place e =
-    by-test (want r)
-    (λ t. let here : answered (r .key ∷ []) ≡ refusal number place = rw t at e in
-    let z : _≡_ {A = ℕ} 0 1 = cc in omega arith)
-    (λ t. root-unrefused want rs number place (rw t at e))
+root-unrefused : (f : First) (number place : ℕ) → keyTold f ≡ refusal number place → ⊥
+unfolding keyTold
+root-unrefused none number place e = let z : _≡_ {A = ℕ} 0 1 = cc in omega arith
+root-unrefused (this r) number place e = let z : _≡_ {A = ℕ} 0 1 = cc in omega arith
 
 encoding-unrefused : (values : ℕ → List ℕ) (p : pages.Plain) (number place : ℕ) → plainTold values p ≡ refusal number place → ⊥
 unfolding plainTold
@@ -81,7 +76,7 @@ index-unrefused entries.absent count number place e = let z : _≡_ {A = ℕ} 0 
 plain-unrefused : (root encoding index : List ℕ) (id locale unwanted : ℕ) → Unrefused (plainResolve root encoding index id locale unwanted)
 unfolding plainResolve plainEncodingTold plainIndexTold plainContent
 plain-unrefused root encoding index id locale unwanted =
-    linked-unrefused Root _ _ (root-unrefused (wanted id locale unwanted) (records root))
+    linked-unrefused Root _ _ (root-unrefused (firstOf (wanted id locale unwanted) (records root)))
     (λ v. linked-unrefused Encoding _ _ (encoding-unrefused _ _)
     (λ w. linked-unrefused Index _ _ (index-unrefused _ _)
     (λ values link number place e. let z : _≡_ {A = ℕ} 0 1 = cc in omega arith)))

@@ -13,7 +13,7 @@ use Rattle.root_layout.specs.declared.Layout.{Layout}
 use Rattle.root_block.specs.Block.{keySize, blockOf, blockCheck}
 use Rattle.root_block.proofs.Laws.{block-fits, key-inside}
 use Rattle.root.specs.Root.{blocksCheck}
-use Rattle.root.specs.Lookup.{Record, recordAt, recordsFrom, recordsIn, foundIn}
+use Rattle.root.specs.Lookup.{Record, recordAt, recordsFrom, recordsIn, firstOf, keyTold, foundIn}
 
 -- The values told of a record: the place of its key, which is whole.
 pub record Whole (s values : List ℕ) : Type 0 where
@@ -27,7 +27,7 @@ module _ (s : List ℕ) (l : Layout) (want : Record → Bool) (values : List ℕ
   Tells rs = foundIn want rs ≡ answered values → Whole s values
 
   one : (r : Record) (rs : List Record) → r .key + keySize ≤ length s → Tells rs → Tells (r ∷ rs)
-  unfolding foundIn
+  unfolding firstOf keyTold
   one r rs inside later f =
       by-test (want r)
       (λ t. let here : answered (r .key ∷ []) ≡ answered values = rw t at f in
@@ -45,7 +45,7 @@ module _ (s : List ℕ) (l : Layout) (want : Record → Bool) (values : List ℕ
       (block at e (suc i) n (omega arith) rs later)
 
   pub found-whole : (blocks : List ℕ) → blocksCheck s l blocks ≡ silent → Tells (recordsIn s l blocks)
-  unfolding blocksCheck recordsIn foundIn
+  unfolding blocksCheck recordsIn firstOf keyTold
   found-whole [] e f = absurd (let z : _≡_ {A = ℕ} 0 1 = cc in omega arith)
   found-whole (at ∷ rest) e f =
       block at (first-left _ _ e) 0 (blockOf l (drop at s) .count) (omega arith) (recordsIn s l rest)

@@ -27,65 +27,46 @@ use Rattle.root_block.proofs.Laws.{block-ids}
 use Rattle.root_block.proofs.Signed.{reckoned, one-fits, reckoned-is, reckoned-fits}
 use Rattle.root_block.proofs.Reckoned.{idBefore, id-next, id-in-range, before-near}
 use Rattle.root.specs.Root.{blocksBy, blocksCheck, rootCheck}
-use Rattle.root.specs.Lookup.{Record, recordAt, recordsFrom, recordsIn, recordsBy, isId, wanted, foundIn, lookupOf, keyOr, outcome}
+use Rattle.root.specs.Lookup.{Record, recordAt, recordsFrom, recordsIn, recordsBy, First, none, this, firstOf}
+use Rattle.root.specs.Lookup.{isId, wanted, foundIn, lookupOf, keyOr, outcome}
 use Rattle.root.specs.declared.Answer.{Answer}
 
 -- ---- one record
 
 module _ (want : Record → Bool) (r : Record) (rest : List Record) where
-  pub not-wanted : want r ≡ false → foundIn want (r ∷ rest) ≡ foundIn want rest
-  unfolding foundIn
-  not-wanted e = ap (λ t. cond t (answered (r .key ∷ [])) (foundIn want rest)) e
+  pub not-wanted : want r ≡ false → firstOf want (r ∷ rest) ≡ firstOf want rest
+  unfolding firstOf
+  not-wanted e = ap (λ t. cond t (this r) (firstOf want rest)) e
 
-  pub is-wanted : want r ≡ true → foundIn want (r ∷ rest) ≡ answered (r .key ∷ [])
-  unfolding foundIn
-  is-wanted e = ap (λ t. cond t (answered (r .key ∷ [])) (foundIn want rest)) e
-
-pub other-id : (id : ℕ) (z : ℤ) → (ofZ w64 z ≡ id → ⊥) → isId id z ≡ false
-unfolding isId
-other-id id (pos n) e = ne-eqb n id e
-other-id id (negsuc n) e = refl
-
-pub same-id : (id : ℕ) (z : ℤ) → inRange z ≡ true → ofZ w64 z ≡ id → isId id z ≡ true
-unfolding isId inRange
-same-id id (pos n) r e = eq-eqb n id e
-same-id id (negsuc n) r e = absurd (false≢true r)
-
-pub both : (t u : Bool) → t ≡ true → u ≡ true → (t && u) ≡ true
-both t u p q = rw (p, q)
-
-pub second : (t u : Bool) → u ≡ false → (t && u) ≡ false
-second true u q = q
-second false u q = refl
+  pub is-wanted : want r ≡ true → firstOf want (r ∷ rest) ≡ this r
+  unfolding firstOf
+  is-wanted e = ap (λ t. cond t (this r) (firstOf want rest)) e
 
 -- ---- one block
 
-module _ (s : List ℕ) (l : Layout) (id locale unwanted at : ℕ) where
-  -- a block that does not count has no wanted record
-  pub block-skipped : counts locale unwanted (blockOf l (drop at s)) ≡ false
-      → (i n : ℕ) (tail : List Record) → foundIn (wanted id locale unwanted) (recordsFrom s l at i n ++ tail) ≡ foundIn (wanted id locale unwanted) tail
-  unfolding recordsFrom recordAt wanted
+module _ (s : List ℕ) (l : Layout) (want : Record → Bool) (at : ℕ) where
+  -- a block none of whose records is wanted
+  pub block-skipped : ((i : ℕ) → want (recordAt s l at i) ≡ false)
+      → (i n : ℕ) (tail : List Record) → firstOf want (recordsFrom s l at i n ++ tail) ≡ firstOf want tail
+  unfolding recordsFrom
   block-skipped e i zero tail = refl
-  block-skipped e i (suc n) tail =
-      not-wanted (wanted id locale unwanted) (recordAt s l at i) _ (ap (λ t. t && isId id (recordAt s l at i .id)) e)
-      ∙ block-skipped e (suc i) n tail
+  block-skipped e i (suc n) tail = not-wanted want (recordAt s l at i) _ (e i) ∙ block-skipped e (suc i) n tail
 
 -- Before record i of n: the id before it, and no record before it is wanted.
-pub record Passing (s : List ℕ) (l : Layout) (id locale unwanted at n i last : ℕ) : Type 0 where
+pub record Passing (s : List ℕ) (l : Layout) (want : Record → Bool) (at n i last : ℕ) : Type 0 where
   pub before : toZ w64 last ≡ idBefore (deltasOf l (drop at s)) i
-  pub none : (tail : List Record) → foundIn (wanted id locale unwanted) (recordsFrom s l at 0 n ++ tail)
-      ≡ foundIn (wanted id locale unwanted) (recordsFrom s l at i (n - i) ++ tail)
+  pub passed : (tail : List Record) → firstOf want (recordsFrom s l at 0 n ++ tail) ≡ firstOf want (recordsFrom s l at i (n - i) ++ tail)
 
-pub passing-none : (s : List ℕ) (l : Layout) (id locale unwanted at n : ℕ) → Passing s l id locale unwanted at n 0 18446744073709551615
+pub passing-none : (s : List ℕ) (l : Layout) (want : Record → Bool) (at n : ℕ) → Passing s l want at n 0 18446744073709551615
 unfolding idBefore
-passing-none s l id locale unwanted at n = record { before = refl; none = λ tail. rw sub-zero }
+passing-none s l want at n = record { before = refl; passed = λ tail. rw sub-zero }
 
-pub passing-all : {s : List ℕ} {l : Layout} {id locale unwanted at n i last : ℕ} → Passing s l id locale unwanted at n i last → i ≡ n
-    → (tail : List Record) → foundIn (wanted id locale unwanted) (recordsFrom s l at 0 n ++ tail) ≡ foundIn (wanted id locale unwanted) tail
+pub passing-all : {s : List ℕ} {l : Layout} {want : Record → Bool} {at n i last : ℕ} → Passing s l want at n i last → i ≡ n
+    → (tail : List Record) → firstOf want (recordsFrom s l at 0 n ++ tail) ≡ firstOf want tail
 unfolding recordsFrom
-passing-all {s} {l} {id} {locale} {unwanted} {at} {n} {i} p e tail =
+passing-all {s} {l} {want} {at} {n} {i} p e tail =
     let nothing : n - i ≡ 0 = omega arith in
-    p .none tail ∙ ap (λ m. foundIn (wanted id locale unwanted) (recordsFrom s l at i m ++ tail)) nothing
+    p .passed tail ∙ ap (λ m. firstOf want (recordsFrom s l at i m ++ tail)) nothing
 
 -- the id of record i, as the code reckons it from the one before
 module _ (s : List ℕ) (l : Layout) (at n i last : ℕ)
@@ -120,8 +101,8 @@ module _ (s : List ℕ) (l : Layout) (at n i last : ℕ)
     unfolding idBefore
     next-before = toZ-ofZ record-fits ∙ next-is ∙ ap (idBefore (deltasOf l (drop at s))) (sym (add-one i))
 
-module _ {s : List ℕ} {l : Layout} {id locale unwanted at n i last : ℕ}
-    (p : Passing s l id locale unwanted at n i last)
+module _ {s : List ℕ} {l : Layout} {want : Record → Bool} {at n i last : ℕ}
+    (p : Passing s l want at n i last)
     (e : blockCheck l (drop at s) at ≡ silent) (c : n ≡ blockOf l (drop at s) .count) (h : i < n)
     (r : ℤ) (small : mag r < 2147483648) where
   pub last-fits : SFits w64 (toZ w64 last +ℤ pos 1)
@@ -130,62 +111,84 @@ module _ {s : List ℕ} {l : Layout} {id locale unwanted at n i last : ℕ}
   pub next-fits : SFits w64 (reckoned last r)
   next-fits = record-fits s l at n i last (p .before) e c h r small
 
+  here : (tail : List Record)
+      → firstOf want (recordsFrom s l at 0 n ++ tail) ≡ firstOf want (recordAt s l at i ∷ recordsFrom s l at (i + 1) (n - (i + 1)) ++ tail)
+  unfolding recordsFrom
+  here tail =
+      let more : n - i ≡ suc (n - (i + 1)) = omega arith in
+      let one : suc i ≡ i + 1 = omega arith in
+      p .passed tail
+      ∙ ap (λ m. firstOf want (recordsFrom s l at i m ++ tail)) more
+      ∙ ap (λ j. firstOf want (recordAt s l at i ∷ recordsFrom s l at j (n - (i + 1)) ++ tail)) one
+
+  pub passing-found : want (recordAt s l at i) ≡ true → (tail : List Record) → firstOf want (recordsFrom s l at 0 n ++ tail) ≡ this (recordAt s l at i)
+  passing-found t tail = here tail ∙ is-wanted want (recordAt s l at i) _ t
+
   module _ (q : r ≡ deltaAt (deltasOf l (drop at s)) i) where
-    is-next : reckoned last r ≡ idAt (deltasOf l (drop at s)) i
-    is-next = next-is s l at n i last (p .before) e c h r small q
-
-    here : (tail : List Record) → foundIn (wanted id locale unwanted) (recordsFrom s l at 0 n ++ tail)
-        ≡ foundIn (wanted id locale unwanted) (recordAt s l at i ∷ recordsFrom s l at (i + 1) (n - (i + 1)) ++ tail)
-    unfolding recordsFrom
-    here tail =
-        let more : n - i ≡ suc (n - (i + 1)) = omega arith in
-        let one : suc i ≡ i + 1 = omega arith in
-        p .none tail
-        ∙ ap (λ m. foundIn (wanted id locale unwanted) (recordsFrom s l at i m ++ tail)) more
-        ∙ ap (λ j. foundIn (wanted id locale unwanted) (recordAt s l at i ∷ recordsFrom s l at j (n - (i + 1)) ++ tail)) one
-
-    pub passing-next : (ofZ w64 (reckoned last r) ≡ id → ⊥) → Passing s l id locale unwanted at n (i + 1) (ofZ w64 (reckoned last r))
-    unfolding recordAt wanted
-    passing-next other =
-        let not-this = second (counts locale unwanted (blockOf l (drop at s))) (isId id (idAt (deltasOf l (drop at s)) i))
-        (other-id id _ (λ g. other (ap (ofZ w64) is-next ∙ g))) in
-        record {
-          before = next-before s l at n i last (p .before) e c h r small q;
-          none = λ tail. here tail ∙ not-wanted (wanted id locale unwanted) (recordAt s l at i) _ not-this;
-        }
-
-    pub passing-found : counts locale unwanted (blockOf l (drop at s)) ≡ true → ofZ w64 (reckoned last r) ≡ id
-        → (tail : List Record)
-        → foundIn (wanted id locale unwanted) (recordsFrom s l at 0 n ++ tail) ≡ answered ((at + block.keyAt l (blockOf l (drop at s)) i) ∷ [])
-    unfolding recordAt wanted
-    passing-found t same tail =
-        here tail
-        ∙ is-wanted (wanted id locale unwanted) (recordAt s l at i) _
-        (both _ _ t (same-id id _ (record-in-range s l at n i last (p .before) e c h r small) (ap (ofZ w64) (sym is-next) ∙ same)))
+    pub passing-next : want (recordAt s l at i) ≡ false → Passing s l want at n (i + 1) (ofZ w64 (reckoned last r))
+    passing-next other = record {
+      before = next-before s l at n i last (p .before) e c h r small q;
+      passed = λ tail. here tail ∙ not-wanted want (recordAt s l at i) _ other;
+    }
 
 -- ---- block after block
 
 -- These blocks pass the check, and the first wanted record of the file is the first of theirs.
 abbrev pub Unsearched : List ℕ → Layout → (Record → Bool) → List ℕ → Type 0
-Unsearched s l want rest = (blocksCheck s l rest ≡ silent) × (foundIn want (recordsBy s l) ≡ foundIn want (recordsIn s l rest))
+Unsearched s l want rest = (blocksCheck s l rest ≡ silent) × (firstOf want (recordsBy s l) ≡ firstOf want (recordsIn s l rest))
 
 module _ (s : List ℕ) (l : Layout) (want : Record → Bool) (at : ℕ) (rest : List ℕ) (u : Unsearched s l want (at ∷ rest)) where
   pub block-passed : blockCheck l (drop at s) at ≡ silent
   unfolding blocksCheck
   block-passed = first-left _ _ (u .0)
 
-  pub found-here : (n : ℕ) → n ≡ blockOf l (drop at s) .count → foundIn want (recordsBy s l) ≡ foundIn want (recordsFrom s l at 0 n ++ recordsIn s l rest)
-  unfolding recordsIn
-  found-here n e = u .1 ∙ ap (λ m. foundIn want (recordsFrom s l at 0 m ++ recordsIn s l rest)) (sym e)
+  module _ (n : ℕ) (e : n ≡ blockOf l (drop at s) .count) where
+    pub found-here : firstOf want (recordsBy s l) ≡ firstOf want (recordsFrom s l at 0 n ++ recordsIn s l rest)
+    unfolding recordsIn
+    found-here = u .1 ∙ ap (λ m. firstOf want (recordsFrom s l at 0 m ++ recordsIn s l rest)) (sym e)
 
-  pub search-on : (n : ℕ) → n ≡ blockOf l (drop at s) .count
-      → ((tail : List Record) → foundIn want (recordsFrom s l at 0 n ++ tail) ≡ foundIn want tail) → Unsearched s l want rest
-  unfolding blocksCheck
-  search-on n e nothing = (first-right _ _ (u .0), found-here n e ∙ nothing (recordsIn s l rest))
+    pub search-on : ((tail : List Record) → firstOf want (recordsFrom s l at 0 n ++ tail) ≡ firstOf want tail) → Unsearched s l want rest
+    unfolding blocksCheck
+    search-on nothing = (first-right _ _ (u .0), found-here ∙ nothing (recordsIn s l rest))
 
-pub search-ended : (s : List ℕ) (l : Layout) (want : Record → Bool) → Unsearched s l want [] → foundIn want (recordsBy s l) ≡ absent []
-unfolding recordsIn foundIn
+pub search-ended : (s : List ℕ) (l : Layout) (want : Record → Bool) → Unsearched s l want [] → firstOf want (recordsBy s l) ≡ none
+unfolding recordsIn firstOf
 search-ended s l want u = u .1
+
+-- ---- a file number
+
+other-id : (id : ℕ) (z : ℤ) → (ofZ w64 z ≡ id → ⊥) → isId id z ≡ false
+unfolding isId
+other-id id (pos n) e = ne-eqb n id e
+other-id id (negsuc n) e = refl
+
+same-id : (id : ℕ) (z : ℤ) → inRange z ≡ true → ofZ w64 z ≡ id → isId id z ≡ true
+unfolding isId inRange
+same-id id (pos n) r e = eq-eqb n id e
+same-id id (negsuc n) r e = absurd (false≢true r)
+
+-- no record of a block that does not count is wanted
+pub uncounted : (s : List ℕ) (l : Layout) (id locale unwanted at : ℕ) → counts locale unwanted (blockOf l (drop at s)) ≡ false
+    → (i : ℕ) → wanted id locale unwanted (recordAt s l at i) ≡ false
+unfolding recordAt wanted
+uncounted s l id locale unwanted at e i = ap (λ t. t && isId id (recordAt s l at i .id)) e
+
+-- in one that counts, record i is wanted if its id, as the code reckons it, is the sought one
+module _ {s : List ℕ} {l : Layout} {want : Record → Bool} {at n i last : ℕ}
+    (p : Passing s l want at n i last)
+    (e : blockCheck l (drop at s) at ≡ silent) (c : n ≡ blockOf l (drop at s) .count) (h : i < n)
+    (r : ℤ) (small : mag r < 2147483648) (q : r ≡ deltaAt (deltasOf l (drop at s)) i)
+    (id locale unwanted : ℕ) (counted : counts locale unwanted (blockOf l (drop at s)) ≡ true) where
+  held : ofZ w64 (reckoned last r) ≡ ofZ w64 (idAt (deltasOf l (drop at s)) i)
+  held = ap (ofZ w64) (next-is s l at n i last (p .before) e c h r small q)
+
+  pub number-other : (ofZ w64 (reckoned last r) ≡ id → ⊥) → wanted id locale unwanted (recordAt s l at i) ≡ false
+  unfolding recordAt wanted
+  number-other other = rw counted (other-id id _ (λ g. other (held ∙ g)))
+
+  pub number-found : ofZ w64 (reckoned last r) ≡ id → wanted id locale unwanted (recordAt s l at i) ≡ true
+  unfolding recordAt wanted
+  number-found same = rw counted (same-id id _ (record-in-range s l at n i last (p .before) e c h r small) (sym held ∙ same))
 
 -- ---- the whole lookup
 

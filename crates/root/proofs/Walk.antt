@@ -88,7 +88,8 @@ abbrev pub Unchecked : List ℕ → Layout → List ℕ → Type 0
 Unchecked s l rest = blocksCheck s l (blocksBy s l) ≡ blocksCheck s l rest
 
 module _ (s : List ℕ) (l : Layout) (at : ℕ) (rest : List ℕ) where
-  pub check-refused : {number place : ℕ} → Unchecked s l (at ∷ rest) → blockCheck l (drop at s) at ≡ refused number place → blocksCheck s l (blocksBy s l) ≡ refused number place
+  pub check-refused : {number place : ℕ} → Unchecked s l (at ∷ rest) → blockCheck l (drop at s) at ≡ refused number place
+      → blocksCheck s l (blocksBy s l) ≡ refused number place
   unfolding blocksCheck
   check-refused p e = p ∙ first-said _ e
 

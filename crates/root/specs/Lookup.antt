@@ -7,22 +7,25 @@ use lib.Dec.{eqb}
 use lib.IntN.{ℤ, pos, negsuc}
 use lib.ListN.{length, drop}
 use Rattle.parts.specs.Part.{partAt}
+use Rattle.numbers.specs.Number.{littleAt}
 use Rattle.refusal.specs.Outcome.{Outcome, answered, absent, refusal, after}
 use Rattle.root_layout.specs.declared.Layout.{Layout}
 use Rattle.root_layout.specs.Header.{layoutOf}
 use Rattle.root_block.specs.declared.Block.{Block}
 use Rattle.root_block.specs.Block as block
-use Rattle.root_block.specs.Block.{keySize, blockOf, deltasOf, counts}
+use Rattle.root_block.specs.Block.{keySize, nameHashSize, blockOf, deltasOf, counts}
 use Rattle.root_block.specs.Ids.{idAt}
 use Rattle.root.specs.Root.{blocksBy, rootCheck}
 use Rattle.root.specs.declared.Answer.{Answer}
 use Rattle.root.specs.declared.Answer.the-variants.{Key, Absent, Refused}
 
--- A record: what its block's header says, with the locale and content flags; its id; where its content key stands in the file.
+-- A record: what its block's header says, with the locale and content flags; its id; where its content key stands in the file; its
+-- name hash, little-endian, which means nothing where the block has no name hashes.
 pub record Record : Type 0 where
   pub block : Block
   pub id : ℤ
   pub key : ℕ
+  pub hash : ℕ
 
 -- Record i of the block at byte `at`.
 unfoldable pub recordAt : List ℕ → Layout → (at i : ℕ) → Record
@@ -30,6 +33,7 @@ recordAt s l at i = record {
   block = blockOf l (drop at s);
   id = idAt (deltasOf l (drop at s)) i;
   key = at + block.keyAt l (blockOf l (drop at s)) i;
+  hash = littleAt s (at + block.hashAt l (blockOf l (drop at s)) i) nameHashSize;
 }
 
 unfoldable pub recordsFrom : List ℕ → Layout → (at i n : ℕ) → List Record
@@ -48,6 +52,15 @@ recordsBy s l = recordsIn s l (blocksBy s l)
 abbrev pub records : List ℕ → List Record
 records s = recordsBy s (layoutOf s)
 
+-- The first record, in file order, that a test takes.
+pub data First : Type 0 where
+  none : First
+  this : Record → First
+
+unfoldable pub firstOf : (Record → Bool) → List Record → First
+firstOf want [] = none
+firstOf want (r ∷ rest) = cond (want r) (this r) (firstOf want rest)
+
 -- A record is wanted if its block counts and its id is the sought one (rule R15).
 unfoldable pub isId : ℕ → ℤ → Bool
 isId id (pos n) = eqb n id
@@ -56,10 +69,13 @@ isId id (negsuc n) = false
 unfoldable pub wanted : (id locale unwanted : ℕ) → Record → Bool
 wanted id locale unwanted r = counts locale unwanted (r .block) && isId id (r .id)
 
--- The first wanted record: where its key stands (rules R15, R16).
-unfoldable pub foundIn : (Record → Bool) → List Record → Outcome
-foundIn want [] = absent []
-foundIn want (r ∷ rest) = cond (want r) (answered (r .key ∷ [])) (foundIn want rest)
+-- What the lookup of a file number tells of the first wanted record: where its key stands (rules R15, R16).
+unfoldable pub keyTold : First → Outcome
+keyTold none = absent []
+keyTold (this r) = answered (r .key ∷ [])
+
+abbrev pub foundIn : (Record → Bool) → List Record → Outcome
+foundIn want rs = keyTold (firstOf want rs)
 
 -- The lookup: the whole file is checked first (rule R15).
 unfoldable pub lookupOf : List ℕ → (id locale unwanted : ℕ) → Outcome

@@ -7,7 +7,7 @@ ghost use Rattle.refusal.specs.Check.{checkOf};
 ghost use Rattle.refusal.specs.declared.Verdict.the-variants.{Passed};
 ghost use Rattle.root.specs.Root.{rootCheck};
 ghost use Rattle.root.specs.Lookup.{lookupOf, outcome};
-ghost use Rattle.root_records.specs.Records.{FindsFirst};
+ghost use Rattle.root_records.specs.Records.{FindsNumber};
 
 // What the check and the lookup answered.
 pub struct Looked {
@@ -20,7 +20,7 @@ pub struct Looked {
 pub fn look(file: &[u8], id: u32, locale: u32, unwanted: u64) -> Looked
     ensures { λ r. ⌜ checkOf (r .checked) ≡ rootCheck (now (file .entry)) ⌝ }
     ensures { λ r. ⌜ outcome (r .found .answer) ≡ lookupOf (now (file .entry)) id locale unwanted ⌝ }
-    ensures { λ r. ⌜ (r .checked ≡ Passed → FindsFirst (now (file .entry)) id locale unwanted (r .found)) ⌝ }
+    ensures { λ r. ⌜ (r .checked ≡ Passed → FindsNumber (now (file .entry)) id locale unwanted (r .found)) ⌝ }
 {
     let checked = root::check(file);
     let found = root::lookup(file, id, locale, unwanted);

@@ -12,7 +12,7 @@ use borrow.Author.Tests.{eq-eqb, ne-eqb, eqb-true, eqb-false, lt-ltb, le-ltb, lt
 use Rattle.parts.specs.Part.{byteAt, partAt, overlay, partsFrom}
 use Rattle.parts.proofs.Laws.{by-test, partAt-byte, overlay-length, overlay-none, overlay-before, overlay-inside}
 use Rattle.parts.proofs.Parts.{parts-length, parts-part, part-laid}
-use Rattle.root.specs.Lookup.{foundIn, keyOr}
+use Rattle.root.specs.Lookup.{firstOf, keyTold, keyOr}
 use Rattle.root.proofs.First.{key-laid}
 use Rattle.id_list.specs.Ids.{idCount, idAt}
 use Rattle.root_find_many.specs.Many.{foundFlag, entryFor}
@@ -89,7 +89,7 @@ module _ (ids old new : List ℕ) (room : Room ids old) (e : new ≡ partsFrom b
       }
 
   pub cleared-held : (s : List ℕ) (locale unwanted : ℕ) → Held ids new (entryBy s locale unwanted [])
-  unfolding entryBy foundIn entryFor foundFlag keyOr
+  unfolding entryBy firstOf keyTold entryFor foundFlag keyOr
   cleared-held s locale unwanted = record {
     each = λ j l. ap (λ r. entryAt r j) e ∙ parts-part blank 20 (idCount ids) (drop (20 * idCount ids) old) (λ k h. refl) j l;
   }

@@ -17,7 +17,6 @@ use borrow.Author.Tests.{eq-eqb, ne-eqb, eqb-true, eqb-false, leb-true}
 use Rattle.parts.specs.Part.{byteAt}
 use Rattle.parts.proofs.Laws.{by-test}
 use Rattle.refusal.specs.Check.{silent}
-use Rattle.refusal.specs.Outcome.{Outcome, answered, absent, refusal}
 use Rattle.refusal.proofs.Laws.{first-left, first-right}
 use Rattle.root_layout.specs.declared.Layout.{Layout}
 use Rattle.root_block.specs.Ids.{deltaAt, mostId, inRange}
@@ -28,50 +27,43 @@ use Rattle.root_block.proofs.Laws.{block-fits, deltas-length, key-inside}
 use Rattle.root_block.proofs.Signed.{reckoned}
 use Rattle.root_block.proofs.Reckoned.{idBefore}
 use Rattle.root.specs.Root.{sizeAt, blocksAfter, blocksBy, blocksCheck}
-use Rattle.root.specs.Lookup.{Record, recordAt, recordsFrom, recordsIn, recordsBy, isId, wanted, foundIn, keyOr}
+use Rattle.root.specs.Lookup.{Record, recordAt, recordsFrom, recordsIn, recordsBy, First, none, this, firstOf, isId, wanted, keyTold, keyOr}
 use Rattle.root.proofs.Walk.{Walk, walk-here, walk-end}
-use Rattle.root.proofs.First.{block-skipped, before-fits, record-fits, record-in-range, next-is, next-before}
+use Rattle.root.proofs.First.{block-skipped, uncounted, before-fits, record-fits, record-in-range, next-is, next-before}
 use Rattle.root_find_many.specs.Many.{foundFlag, entryFor}
 use Rattle.root_find_many.specs.Entries.{Held, Kept, foundEntry, turned, entryBy, BlockAt, BlockPut}
 use Rattle.root_find_many.proofs.Laid.{kept-same, kept-on}
 
 -- ---- the first match
 
--- An answer, or the other where there is none.
-unfoldable orElse : Outcome → Outcome → Outcome
-orElse (answered values) o = answered values
-orElse (absent values) o = o
-orElse (refusal number place) o = o
+-- The first record, or the other where there is none.
+unfoldable orElse : First → First → First
+orElse none f = f
+orElse (this r) f = this r
 
-or-cond : (t : Bool) (values : List ℕ) (a b : Outcome) → cond t (answered values) (orElse a b) ≡ orElse (cond t (answered values) a) b
+or-cond : (t : Bool) (r : Record) (a b : First) → cond t (this r) (orElse a b) ≡ orElse (cond t (this r) a) b
 unfolding orElse
-or-cond true values a b = refl
-or-cond false values a b = refl
+or-cond true r a b = refl
+or-cond false r a b = refl
 
-found-append : (want : Record → Bool) (a b : List Record) → foundIn want (a ++ b) ≡ orElse (foundIn want a) (foundIn want b)
-unfolding foundIn orElse
+found-append : (want : Record → Bool) (a b : List Record) → firstOf want (a ++ b) ≡ orElse (firstOf want a) (firstOf want b)
+unfolding firstOf orElse
 found-append want [] b = refl
 found-append want (r ∷ a) b =
-    ap (cond (want r) (answered (r .key ∷ []))) (found-append want a b)
-    ∙ or-cond (want r) (r .key ∷ []) (foundIn want a) (foundIn want b)
+    ap (cond (want r) (this r)) (found-append want a b) ∙ or-cond (want r) r (firstOf want a) (firstOf want b)
 
-module _ (s : List ℕ) where
-  -- no more matches leave the entry
-  entry-none : (o : Outcome) → entryFor s (orElse o (absent [])) ≡ entryFor s o
-  unfolding orElse entryFor foundFlag keyOr
-  entry-none (answered values) = refl
-  entry-none (absent values) = refl
-  entry-none (refusal number place) = refl
+or-none : (f : First) → orElse f none ≡ f
+unfolding orElse
+or-none none = refl
+or-none (this r) = refl
 
-  -- a match puts an entry where there was none
-  entry-one : (at sought id : ℕ) (o : Outcome) (t : Bool) → eqb id sought ≡ t
-      → turned (foundEntry s at) sought id (entryFor s o) ≡ entryFor s (orElse o (cond t (answered (at ∷ [])) (absent [])))
-  unfolding orElse turned entryFor foundFlag keyOr
-  entry-one at sought id (answered values) t e = ap (λ u. cond u (foundEntry s at) (entryFor s (answered values))) (and-false (eqb id sought))
-  entry-one at sought id (absent values) true e = ap (λ u. cond (u && true) (foundEntry s at) (entryFor s (absent values))) e
-  entry-one at sought id (absent values) false e = ap (λ u. cond (u && true) (foundEntry s at) (entryFor s (absent values))) e
-  entry-one at sought id (refusal number place) true e = ap (λ u. cond (u && true) (foundEntry s at) (entryFor s (refusal number place))) e
-  entry-one at sought id (refusal number place) false e = ap (λ u. cond (u && true) (foundEntry s at) (entryFor s (refusal number place))) e
+-- a match puts an entry where there was none
+entry-one : (s : List ℕ) (r : Record) (sought id : ℕ) (f : First) (t : Bool) → eqb id sought ≡ t
+    → turned (foundEntry s (r .key)) sought id (entryFor s (keyTold f)) ≡ entryFor s (keyTold (orElse f (cond t (this r) none)))
+unfolding orElse turned entryFor foundFlag keyOr keyTold
+entry-one s r sought id (this q) t e = ap (λ u. cond u (foundEntry s (r .key)) (entryFor s (keyTold (this q)))) (and-false (eqb id sought))
+entry-one s r sought id none true e = ap (λ u. cond (u && true) (foundEntry s (r .key)) (entryFor s (keyTold none))) e
+entry-one s r sought id none false e = ap (λ u. cond (u && true) (foundEntry s (r .key)) (entryFor s (keyTold none))) e
 
 -- ---- one record
 
@@ -99,14 +91,14 @@ module _ (s : List ℕ) (locale unwanted : ℕ) (seen : List Record) (r : Record
     (c : counts locale unwanted (r .block) ≡ true) (in-range : inRange (r .id) ≡ true) where
   entry-next : (id : ℕ)
       → turned (foundEntry s (r .key)) (ofZ w64 (r .id)) id (entryBy s locale unwanted seen id) ≡ entryBy s locale unwanted (seen ++ (r ∷ [])) id
-  unfolding entryBy foundIn wanted
+  unfolding entryBy firstOf wanted
   entry-next id =
       let want = wanted id locale unwanted in
       let test : (counts locale unwanted (r .block) && isId id (r .id)) ≡ eqb id (ofZ w64 (r .id)) =
       ap (λ t. t && isId id (r .id)) c ∙ is-id id (r .id) in-range in
-      entry-one s (r .key) (ofZ w64 (r .id)) id (foundIn want seen) (eqb id (ofZ w64 (r .id))) refl
-      ∙ ap (λ t. entryFor s (orElse (foundIn want seen) (cond t (answered (r .key ∷ [])) (absent [])))) (sym test)
-      ∙ ap (entryFor s) (sym (found-append want seen (r ∷ [])))
+      entry-one s r (ofZ w64 (r .id)) id (firstOf want seen) (eqb id (ofZ w64 (r .id))) refl
+      ∙ ap (λ t. entryFor s (keyTold (orElse (firstOf want seen) (cond t (this r) none)))) (sym test)
+      ∙ ap (λ f. entryFor s (keyTold f)) (sym (found-append want seen (r ∷ [])))
 
 -- ---- one block
 
@@ -144,14 +136,13 @@ module _ (s : List ℕ) (l : Layout) (at : ℕ) (ids old : List ℕ) where
 
   -- a block that does not count changes nothing
   pub none-counts : (locale unwanted : ℕ) → counts locale unwanted (blockOf l (drop at s)) ≡ false → BlockPut s l at locale unwanted ids old old
-  unfolding entryBy foundIn
+  unfolding entryBy firstOf
   none-counts locale unwanted c = record {
     held = λ seen.
         let records = recordsFrom s l at 0 (blockOf l (drop at s) .count) in
         held-same (λ x. let want = wanted x locale unwanted in
-        sym (ap (entryFor s) (found-append want seen records
-        ∙ ap (orElse (foundIn want seen)) (ap (foundIn want) (sym (append-nil records)) ∙ block-skipped s l x locale unwanted at c 0 _ []))
-        ∙ entry-none s (foundIn want seen)));
+        let skipped = ap (firstOf want) (sym (append-nil records)) ∙ block-skipped s l want at (uncounted s l x locale unwanted at c) 0 _ [] in
+        sym (ap (λ f. entryFor s (keyTold f)) (found-append want seen records ∙ ap (orElse (firstOf want seen)) skipped ∙ or-none (firstOf want seen))));
   }
 
 -- a block whose records are all seen

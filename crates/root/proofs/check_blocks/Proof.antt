@@ -1,12 +1,14 @@
 -- `root::check_blocks`: the walk, with the check of the blocks that are left.
 use mathlib.Core.Path.{_≡_, refl, sym, ap, _∙_}
-use Prim.Native.Nat.{_-_, _≤_}
+use mathlib.Core.List.{List}
+use Prim.Native.Nat.{ℕ, _-_, _≤_}
 use native.Mathlib.Omega.{arith}
 use lib.ListN.{length, drop, length-drop}
 use borrow.Author.Needs.{needs}
 use Rattle.parts.proofs.Laws.{part-to-end}
 use Rattle.refusal.specs.Check.{silent, checkOf}
 use Rattle.refusal.proofs.Laws.{refused-is, passed-is}
+use Rattle.root_layout.specs.declared.Layout.{Layout}
 use Rattle.root_block.specs.Block.{blockOf, blockSize, blockCheck}
 use Rattle.root_block.proofs.Laws.{block-fits}
 use Rattle.root.specs.Root.{sizeAt}
@@ -20,73 +22,80 @@ Inv-loop file l at₀ at = Walk file l (Unchecked file l) at
 abbrev μ-loop : tie.MeasureT-loop
 μ-loop file l at₀ at = length file - at
 
-cast-at : tie.Need-cast-at Inv-loop μ-loop
-cast-at c = search needs
+-- the block at hand: what its check says
+abbrev start-at : tie.In-loop Inv-loop μ-loop → tie.Start Inv-loop μ-loop
+start-at c = c .before .before .before .before
 
--- the check of the block at hand, what it says where it passed, and the bytes that the block takes
-judged : (c : tie.After-check Inv-loop μ-loop) → checkOf (c .check .result) ≡ blockCheck (c .before .before .before .before .before .before .args .l) (drop (c .before .before .before .loop .at) (c .before .before .before .before .before .before .args .file .now)) (c .before .before .before .loop .at)
-judged c = c .check .ensures ∙ ap (λ b. blockCheck (c .before .before .before .before .before .before .args .l) b (c .before .before .before .loop .at)) (part-to-end (c .before .before .before .loop .at) (c .before .before .before .before .before .before .args .file .now))
+abbrev file-at : tie.In-loop Inv-loop μ-loop → List ℕ
+file-at c = start-at c .args .file .now
 
-passed : (c : tie.After-size Inv-loop μ-loop) → blockCheck (c .before .before .before .before .before .before .before .before .before .before .args .l) (drop (c .before .before .before .before .before .before .before .loop .at) (c .before .before .before .before .before .before .before .before .before .before .args .file .now)) (c .before .before .before .before .before .before .before .loop .at) ≡ silent
-passed c = passed-is (c .before .before .before .before .check .result) _ (judged (c .before .before .before .before)) (c .before .before .enum-told2 .given .1)
+abbrev layout-at : tie.In-loop Inv-loop μ-loop → Layout
+layout-at c = start-at c .args .l
 
-moved : (c : tie.After-size Inv-loop μ-loop) → c .size .result ≡ sizeAt (c .before .before .before .before .before .before .before .before .before .before .args .file .now) (c .before .before .before .before .before .before .before .before .before .before .args .l) (c .before .before .before .before .before .before .before .loop .at)
+abbrev place-at : tie.In-loop Inv-loop μ-loop → ℕ
+place-at c = c .before .loop .at
+
+abbrev turn : tie.After-check Inv-loop μ-loop → tie.In-loop Inv-loop μ-loop
+turn c = c .before .before
+
+judged : (c : tie.After-check Inv-loop μ-loop) → let t = turn c in
+    checkOf (c .check .result) ≡ blockCheck (layout-at t) (drop (place-at t) (file-at t)) (place-at t)
+judged c =
+    let t = turn c in
+    c .check .ensures ∙ ap (λ b. blockCheck (layout-at t) b (place-at t)) (part-to-end (place-at t) (file-at t))
+
+-- where it passed, the bytes that it takes
+abbrev checked-at : tie.After-size Inv-loop μ-loop → tie.After-check Inv-loop μ-loop
+checked-at c = c .before .before .before .before
+
+abbrev sized-at : tie.After-size Inv-loop μ-loop → tie.In-loop Inv-loop μ-loop
+sized-at c = turn (checked-at c)
+
+passed : (c : tie.After-size Inv-loop μ-loop) → let t = sized-at c in
+    blockCheck (layout-at t) (drop (place-at t) (file-at t)) (place-at t) ≡ silent
+passed c = passed-is (checked-at c .check .result) _ (judged (checked-at c)) (c .before .before .enum-told2 .given .1)
+
+moved : (c : tie.After-size Inv-loop μ-loop) → let t = sized-at c in c .size .result ≡ sizeAt (file-at t) (layout-at t) (place-at t)
 moved c =
-    c .size .ensures
-    ∙ ap (blockSize (c .before .before .before .before .before .before .before .before .before .before .args .l)) (c .before .read .ensures ∙ ap (blockOf (c .before .before .before .before .before .before .before .before .before .before .args .l)) (part-to-end (c .before .before .before .before .before .before .before .loop .at) (c .before .before .before .before .before .before .before .before .before .before .args .file .now)))
+    let t = sized-at c in
+    let l = layout-at t in
+    c .size .ensures ∙ ap (blockSize l) (c .before .read .ensures ∙ ap (blockOf l) (part-to-end (place-at t) (file-at t)))
 
-inside : (c : tie.After-size Inv-loop μ-loop) → sizeAt (c .before .before .before .before .before .before .before .before .before .before .args .file .now) (c .before .before .before .before .before .before .before .before .before .before .args .l) (c .before .before .before .before .before .before .before .loop .at) ≤ length (c .before .before .before .before .before .before .before .before .before .before .args .file .now) - c .before .before .before .before .before .before .before .loop .at
-inside c = rw (← length-drop (c .before .before .before .before .before .before .before .loop .at) (c .before .before .before .before .before .before .before .before .before .before .args .file .now)) (block-fits _ _ (c .before .before .before .before .before .before .before .loop .at) (passed c))
+inside : (c : tie.After-size Inv-loop μ-loop) → let t = sized-at c in
+    sizeAt (file-at t) (layout-at t) (place-at t) ≤ length (file-at t) - place-at t
+inside c =
+    let t = sized-at c in
+    rw (← length-drop (place-at t) (file-at t)) (block-fits _ _ (place-at t) (passed c))
 
 loop-holds : tie.Need-loop-holds Inv-loop μ-loop
 loop-holds c = walk-start _ _ (Unchecked _ _) refl
 
-sub-bytes : tie.Need-sub-bytes Inv-loop μ-loop
-sub-bytes c = search needs
-
-part-bytes-start : tie.Need-part-bytes-start Inv-loop μ-loop
-part-bytes-start c = search needs
-
-part-bytes-end : tie.Need-part-bytes-end Inv-loop μ-loop
-part-bytes-end c = search needs
-
-check-requires : tie.Need-check-requires Inv-loop μ-loop
-check-requires c κs = search needs
-
-enum-told : tie.Need-enum-told Inv-loop μ-loop
-enum-told c = search needs
-
 returns : tie.Need-returns Inv-loop μ-loop
 unfolding checkOf
 returns c =
-    let s = c .before .before .before .before .before .before .before .before .args .file .now in
-    let l = c .before .before .before .before .before .before .before .before .args .l in
-    let at = c .before .before .before .before .before .loop .at in
-    let w = walk-here s l (Unchecked s l) at (c .before .before .before .before .loop-test .taken) (c .before .before .before .before .before .loop .inv) in
+    let check = c .before .before in
+    let t = turn check in
+    let s = file-at t in
+    let l = layout-at t in
+    let w = walk-here s l (Unchecked s l) (place-at t) (t .loop-test .taken) (t .before .loop .inv) in
     let r = c .enum-told .given in
-    rw (r .1) (sym (check-refused s l at _ w (refused-is (c .before .before .check .result) _ (judged (c .before .before)) (r .1))))
-
-enum-told-2 : tie.Need-enum-told-2 Inv-loop μ-loop
-enum-told-2 c = search needs
-
-read-requires : tie.Need-read-requires Inv-loop μ-loop
-read-requires c κs = search needs
-
-size-requires : tie.Need-size-requires Inv-loop μ-loop
-size-requires c κs = search needs
+    rw (r .1) (sym (check-refused s l (place-at t) _ w (refused-is (check .check .result) _ (judged check) (r .1))))
 
 add-at : tie.Need-add-at Inv-loop μ-loop
-add-at c = record { fits = omega (arith, moved c, inside c, c .before .before .before .before .before .before .before .before .before .before .good) }
+add-at c = record { fits = omega (arith, moved c, inside c, start-at (sized-at c) .good) }
 
 loop-less : tie.Need-loop-less Inv-loop μ-loop
-loop-less c = omega (arith, c .before .before .before .before .before .before .loop-test .taken, moved c, size-some (c .before .before .before .before .before .before .before .before .before .before .args .file .now) (c .before .before .before .before .before .before .before .before .before .before .args .l) (c .before .before .before .before .before .before .before .loop .at))
+loop-less c =
+    let t = sized-at c in
+    omega (arith, t .loop-test .taken, moved c, size-some (file-at t) (layout-at t) (place-at t))
 
 loop-again : tie.Need-loop-again Inv-loop μ-loop
 loop-again c =
-    let s = c .before .before .before .before .before .before .before .before .before .before .args .file .now in
-    let l = c .before .before .before .before .before .before .before .before .before .before .args .l in
-    let at = c .before .before .before .before .before .before .before .loop .at in
-    rw (moved c) (walk-next s l (Unchecked s l) at (c .before .before .before .before .before .before .loop-test .taken) (c .before .before .before .before .before .before .before .loop .inv) (λ rest. check-passed s l at rest (passed c)))
+    let t = sized-at c in
+    let s = file-at t in
+    let l = layout-at t in
+    rw (moved c)
+    (walk-next s l (Unchecked s l) (place-at t) (t .loop-test .taken) (t .before .loop .inv) (λ rest. check-passed s l (place-at t) rest (passed c)))
 
 returns-2 : tie.Need-returns-2 Inv-loop μ-loop
 unfolding checkOf
@@ -98,17 +107,17 @@ check-blocks-spec =
     (tie.spec
     Inv-loop
     μ-loop
-    cast-at
+    (λ c. search needs)
     loop-holds
-    sub-bytes
-    part-bytes-start
-    part-bytes-end
-    check-requires
-    enum-told
+    (λ c. search needs)
+    (λ c. search needs)
+    (λ c. search needs)
+    (λ c κs. search needs)
+    (λ c. search needs)
     returns
-    enum-told-2
-    read-requires
-    size-requires
+    (λ c. search needs)
+    (λ c κs. search needs)
+    (λ c κs. search needs)
     add-at
     loop-less
     loop-again

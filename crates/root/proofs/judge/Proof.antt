@@ -8,41 +8,29 @@ use borrow.Author.Needs.{needs}
 use Rattle.root.proofs.judge.Statement.{statement}
 use Rattle.root.proofs.judge.Tie as tie
 
-open-requires : tie.Need-open-requires
-open-requires c κs = search needs
-
-enum-known-opened : tie.Need-enum-known-opened
-enum-known-opened c = search needs
-
-check-blocks-requires : tie.Need-check-blocks-requires
-check-blocks-requires c κs = search needs
-
-enum-known-r : tie.Need-enum-known-r
-enum-known-r c = search needs
-
 returns : tie.Need-returns
 unfolding rootCheck outcome
 returns c =
-    let s = c .before .before .before .before .before .before .before .before .before .args .file .now in
-    let o = c .before .before .before .before .before .before .before .«open» in
-    let i = passed-layout (headerCheck s) _ (layoutOf s) (o .result) (o .ensures) (c .before .before .before .before .before .opened .given .1) in
-    let v = c .before .before .before .check-blocks in
+    let blocks = c .before .before .before in
+    let opened = blocks .before .before in
+    let open-at = opened .before .before in
+    let s = open-at .before .before .args .file .now in
+    let o = open-at .«open» in
+    let i = passed-layout (headerCheck s) _ (layoutOf s) (o .result) (o .ensures) (opened .opened .given .1) in
+    let v = blocks .check-blocks in
     sym (after-said _ (skip (i .0) (refused-is (v .result) _ (v .ensures ∙ ap (λ l. blocksCheck s l (blocksBy s l)) (i .1)) (c .before .r .given .1))))
-
-enum-told : tie.Need-enum-told
-enum-told c = search needs
-
-enum-told-2 : tie.Need-enum-told-2
-enum-told-2 c = search needs
 
 returns-2 : tie.Need-returns-2
 unfolding rootCheck
 returns-2 c =
-    let s = c .before .before .before .before .before .before .before .before .args .file .now in
-    let o = c .before .before .before .before .before .before .«open» in
-    let i = passed-layout (headerCheck s) _ (layoutOf s) (o .result) (o .ensures) (c .before .before .before .before .opened .given .1) in
-    let v = c .before .before .check-blocks in
-    ap outcome (sym (c .before .before .before .before .opened .given .1)) ∙ o .ensures ∙ after-quiet _ (i .0)
+    let blocks = c .before .before in
+    let opened = blocks .before .before in
+    let open-at = opened .before .before in
+    let s = open-at .before .before .args .file .now in
+    let o = open-at .«open» in
+    let i = passed-layout (headerCheck s) _ (layoutOf s) (o .result) (o .ensures) (opened .opened .given .1) in
+    let v = blocks .check-blocks in
+    ap outcome (sym (opened .opened .given .1)) ∙ o .ensures ∙ after-quiet _ (i .0)
     ∙ sym (after-quiet _ (skip (i .0) (passed-is (v .result) _ (v .ensures ∙ ap (λ l. blocksCheck s l (blocksBy s l)) (i .1)) (c .enum-told .given .1))))
 
 returns-3 : tie.Need-returns-3
@@ -57,12 +45,12 @@ pub judge-spec : {M : Type 1} → statement M
 judge-spec =
     tie.close
     (tie.spec
-    open-requires
-    enum-known-opened
-    check-blocks-requires
-    enum-known-r
+    (λ c κs. search needs)
+    (λ c. search needs)
+    (λ c κs. search needs)
+    (λ c. search needs)
     returns
-    enum-told
-    enum-told-2
+    (λ c. search needs)
+    (λ c. search needs)
     returns-2
     returns-3)

@@ -5,6 +5,7 @@ use Prim.Native.Nat.{ℕ}
 use lib.ListN.{replicate}
 use denote.Enum.Declared.{tagOf}
 use types.Run.{OneOf, miss}
+use Rattle.refusal.specs.Check.{silent}
 use Rattle.refusal.proofs.Laws.{after-said}
 use Rattle.root_layout.specs.Header.{layoutOf}
 use Rattle.root_layout.proofs.Laws.{passed-layout, refused-layout}
@@ -25,23 +26,29 @@ no-key s (Key at) e = absurd (miss (1 ∷ 2 ∷ []) 0 tt e)
 no-key s Absent e = refl
 no-key s (Refused r) e = refl
 
-judge-requires : tie.Need-judge-requires
-judge-requires c κs = search needs
+-- a file that is judged silently, and its layout
+abbrev start-at : tie.After-judge → tie.Start
+start-at c = c .before .before
 
-enum-known-r : tie.Need-enum-known-r
-enum-known-r c = search needs
+judged : (c : tie.After-l) → let s = start-at (c .before .before) .args .file .now in (rootCheck s ≡ silent) × (c .l .given .0 .0 ≡ layoutOf s)
+judged c =
+    let judge = c .before .before in
+    let s = start-at judge .args .file .now in
+    passed-layout (rootCheck s) _ (layoutOf s) (judge .judge .result) (judge .judge .ensures) (c .l .given .1)
 
-enum-known-l : tie.Need-enum-known-l
-enum-known-l c = search needs
+-- what the search answers is what the lookup tells
+abbrev layout-at : tie.After-search → tie.After-l
+layout-at c = c .before .before
+
+told : (c : tie.After-search) (b : Answer) → c .search .result ≡ b
+    → let a = start-at (layout-at c .before .before) .args in outcome b ≡ lookupOf (a .file .now) (a .id) (a .locale) (a .unwanted)
+told c b e =
+    let a = start-at (layout-at c .before .before) .args in
+    let i = judged (layout-at c) in
+    search-is (a .file .now) _ (a .id) (a .locale) (a .unwanted) (c .search .result) b (i .0) (i .1) e (c .search .ensures .0)
 
 search-requires : tie.Need-search-requires
-search-requires c κs =
-    let s = c .before .before .before .before .before .args .file .now in
-    let i = passed-layout (rootCheck s) _ (layoutOf s) (c .before .before .before .judge .result) (c .before .before .before .judge .ensures) (c .before .l .given .1) in
-    root-passed s _ (i .0) (i .1)
-
-enum-known-answer : tie.Need-enum-known-answer
-enum-known-answer c = search needs
+search-requires c κs = let i = judged (c .before) in root-passed _ _ (i .0) (i .1)
 
 key-from-requires : tie.Need-key-from-requires
 key-from-requires c κs = c .before .before .before .search .ensures .1 _ (c .before .answer .given .1)
@@ -49,35 +56,37 @@ key-from-requires c κs = c .before .before .before .search .ensures .1 _ (c .be
 returns : tie.Need-returns
 unfolding outcome lookupOf keyOr
 returns c =
-    let s = c .before .before .before .before .before .before .before .before .before .before .args .file .now in
-    let i = passed-layout (rootCheck s) _ (layoutOf s) (c .before .before .before .before .before .before .before .before .judge .result) (c .before .before .before .before .before .before .before .before .judge .ensures) (c .before .before .before .before .before .before .l .given .1) in
-    let o = search-is s _ (c .before .before .before .before .before .before .before .before .before .before .args .id) (c .before .before .before .before .before .before .before .before .before .before .args .locale) (c .before .before .before .before .before .before .before .before .before .before .args .unwanted) _ _ (i .0) (i .1) (c .before .before .answer .given .1) (c .before .before .before .before .search .ensures .0) in
+    let answer = c .before .before in
+    let search = answer .before .before in
+    let s = start-at (layout-at search .before .before) .args .file .now in
+    let o = told search _ (answer .answer .given .1) in
     (o, c .key-from .ensures ∙ ap (keyOr s (replicate 16 0)) o)
 
 returns-2 : tie.Need-returns-2
 unfolding outcome lookupOf keyOr
 returns-2 c =
-    let s = c .before .before .before .before .before .args .file .now in
-    let o = sym (after-said _ (refused-layout (rootCheck s) (layoutOf s) (c .before .before .before .judge .result) (c .before .before .before .judge .ensures) (c .before .r .given .1))) in
+    let judge = c .before .before .before in
+    let s = start-at judge .args .file .now in
+    let o = sym (after-said _ (refused-layout (rootCheck s) (layoutOf s) (judge .judge .result) (judge .judge .ensures) (c .before .r .given .1))) in
     (o, ap (keyOr s (replicate 16 0)) o)
 
 returns-3 : tie.Need-returns-3
 unfolding outcome lookupOf keyOr
 returns-3 c =
-    let s = c .before .before .before .before .before .before .before .args .file .now in
-    let i = passed-layout (rootCheck s) _ (layoutOf s) (c .before .before .before .before .before .judge .result) (c .before .before .before .before .before .judge .ensures) (c .before .before .before .l .given .1) in
-    let o = search-is s _ (c .before .before .before .before .before .before .before .args .id) (c .before .before .before .before .before .before .before .args .locale) (c .before .before .before .before .before .before .before .args .unwanted) (c .before .search .result) (c .before .search .result) (i .0) (i .1) refl (c .before .search .ensures .0) in
-    (o, no-key s (c .before .search .result) (c .match2 .keys2) ∙ ap (keyOr s (replicate 16 0)) o)
+    let search = c .before in
+    let s = start-at (layout-at search .before .before) .args .file .now in
+    let o = told search (search .search .result) refl in
+    (o, no-key s (search .search .result) (c .match2 .keys2) ∙ ap (keyOr s (replicate 16 0)) o)
 
 pub lookup-spec : {M : Type 1} → statement M
 lookup-spec =
     tie.close
     (tie.spec
-    judge-requires
-    enum-known-r
-    enum-known-l
+    (λ c κs. search needs)
+    (λ c. search needs)
+    (λ c. search needs)
     search-requires
-    enum-known-answer
+    (λ c. search needs)
     key-from-requires
     returns
     returns-2

@@ -1,6 +1,6 @@
 -- `root_calls::look`: the theorem of the two answers.
 use borrow.Author.Needs.{needs}
-use Rattle.root_records.proofs.Records.{finds-first}
+use Rattle.root_records.proofs.Records.{finds-number}
 use Rattle.root_calls.proofs.look.Statement.{statement}
 use Rattle.root_calls.proofs.look.Tie as tie
 
@@ -12,7 +12,7 @@ returns c =
       check .ensures,
       (
         lookup .ensures .0,
-        λ p. finds-first (a .file .now) (a .id) (a .locale) (a .unwanted) (record {
+        λ p. finds-number (a .file .now) (a .id) (a .locale) (a .unwanted) (record {
           checked = check .result;
           looked = lookup .result;
           check-ensures = check .ensures;

@@ -5,9 +5,6 @@ use borrow.Author.Needs.{needs}
 use Rattle.root_find_many.proofs.fill.Statement.{statement}
 use Rattle.root_find_many.proofs.fill.Tie as tie
 
-clear-requires : tie.Need-clear-requires
-clear-requires c κs = search needs
-
 put-blocks-requires : tie.Need-put-blocks-requires
 put-blocks-requires c κs =
     let cleared = c .before .before .before in
@@ -34,4 +31,4 @@ returns c =
     (kept-on (cleared-kept (start .args .ids .now) (start .args .output .now) _ (start .pre .1 .1) (cleared .clear .ensures)) (p .ensures .0), p .ensures .1)
 
 pub fill-spec : {M : Type 1} → statement M
-fill-spec = tie.close (tie.spec clear-requires put-blocks-requires same-length returns)
+fill-spec = tie.close (tie.spec (λ c κs. search needs) put-blocks-requires same-length returns)

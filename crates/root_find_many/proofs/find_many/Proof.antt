@@ -29,15 +29,6 @@ passed c =
     let j = c .before .before .judge-all in
     passed-layout (manyCheck (a .file .now) (a .ids .now) (length (a .output .now))) _ (layoutOf (a .file .now)) (j .result) (j .ensures) (c .l .given .1)
 
-judge-all-requires : tie.Need-judge-all-requires
-judge-all-requires c κs = search needs
-
-enum-known-r : tie.Need-enum-known-r
-enum-known-r c = search needs
-
-enum-known-l : tie.Need-enum-known-l
-enum-known-l c = search needs
-
 fill-requires : tie.Need-fill-requires
 fill-requires c κs =
     let l = c .before .before in
@@ -86,9 +77,9 @@ pub find-many-spec : {M : Type 1} → statement M
 find-many-spec =
     tie.close
     (tie.spec
-    judge-all-requires
-    enum-known-r
-    enum-known-l
+    (λ c κs. search needs)
+    (λ c. search needs)
+    (λ c. search needs)
     fill-requires
     mul-t16
     returns

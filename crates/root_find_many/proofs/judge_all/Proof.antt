@@ -24,12 +24,6 @@ opened c =
 listed : (c : tie.After-enum-told3) → idsCheck (start-at (c .before .before .before .before .before) .args .ids .now) ≡ silent
 listed c = passed-is (c .before .before .check .result) _ (c .before .before .check .ensures) (c .enum-told3 .given .1)
 
-judge-requires : tie.Need-judge-requires
-judge-requires c κs = search needs
-
-enum-told : tie.Need-enum-told
-enum-told c = search needs
-
 returns : tie.Need-returns
 returns c =
     let a = start-at (c .before .before) .args in
@@ -38,15 +32,6 @@ returns c =
     let e = refused-layout (rootCheck s) (layoutOf s) (j .result) (j .ensures) (c .enum-told .given .1) in
     j .ensures ∙ after-said _ e ∙ sym (after-said _ (root-refused s (a .ids .now) (a .room) e))
 
-enum-told-2 : tie.Need-enum-told-2
-enum-told-2 c = search needs
-
-check-requires : tie.Need-check-requires
-check-requires c κs = search needs
-
-enum-known-r : tie.Need-enum-known-r
-enum-known-r c = search needs
-
 returns-2 : tie.Need-returns-2
 unfolding outcome
 returns-2 c =
@@ -54,9 +39,6 @@ returns-2 c =
     let a = start-at (v .before .before .before) .args in
     let e = refused-is (v .check .result) _ (v .check .ensures) (c .before .r .given .1) in
     sym (after-said _ (ids-refused (a .file .now) (a .ids .now) (a .room) (opened (v .before)) e))
-
-enum-told-3 : tie.Need-enum-told-3
-enum-told-3 c = search needs
 
 returns-3 : tie.Need-returns-3
 unfolding outcome
@@ -76,13 +58,13 @@ pub judge-all-spec : {M : Type 1} → statement M
 judge-all-spec =
     tie.close
     (tie.spec
-    judge-requires
-    enum-told
+    (λ c κs. search needs)
+    (λ c. search needs)
     returns
-    enum-told-2
-    check-requires
-    enum-known-r
+    (λ c. search needs)
+    (λ c κs. search needs)
+    (λ c. search needs)
     returns-2
-    enum-told-3
+    (λ c. search needs)
     returns-3
     returns-4)

@@ -18,29 +18,11 @@ start-at c = c .before .before .before .before .before
 header : (c : tie.After-read) → c .read .result ≡ blockOf (start-at c .args .l) (drop (start-at c .args .at) (start-at c .args .file .now))
 header c = c .read .ensures ∙ ap (blockOf (start-at c .args .l)) (part-to-end (start-at c .args .at) (start-at c .args .file .now))
 
-sub-bytes : tie.Need-sub-bytes
-sub-bytes c = search needs
-
-part-bytes-start : tie.Need-part-bytes-start
-part-bytes-start c = search needs
-
-part-bytes-end : tie.Need-part-bytes-end
-part-bytes-end c = search needs
-
-read-requires : tie.Need-read-requires
-read-requires c κs = search needs
-
-counts-requires : tie.Need-counts-requires
-counts-requires c κs = search needs
-
 returns : tie.Need-returns
 returns c =
     let a = start-at (c .before .before) .args in
     let other = ap (counts (a .locale) (a .unwanted)) (sym (header (c .before .before))) ∙ sym (c .before .counts .ensures) ∙ not-true _ (c .if1 .taken) in
     (kept-same _ _, none-counts (a .file .now) (a .l) (a .at) (a .ids .now) (a .output .now) (a .locale) (a .unwanted) other)
-
-deltas-requires : tie.Need-deltas-requires
-deltas-requires c κs = search needs
 
 put-records-requires : tie.Need-put-records-requires
 put-records-requires c κs =
@@ -71,13 +53,13 @@ pub put-block-spec : {M : Type 1} → statement M
 put-block-spec =
     tie.close
     (tie.spec
-    sub-bytes
-    part-bytes-start
-    part-bytes-end
-    read-requires
-    counts-requires
+    (λ c. search needs)
+    (λ c. search needs)
+    (λ c. search needs)
+    (λ c κs. search needs)
+    (λ c κs. search needs)
     returns
-    deltas-requires
+    (λ c κs. search needs)
     put-records-requires
     same-length
     returns-2)

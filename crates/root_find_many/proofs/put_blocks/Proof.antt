@@ -56,31 +56,10 @@ moved c =
     let a = start-at (turn c) .args in
     c .size .ensures ∙ ap (blockSize (a .l)) (c .before .read .ensures ∙ ap (blockOf (a .l)) (part-to-end (turn c .before .loop .at) (a .file .now)))
 
-cast-at : tie.Need-cast-at Inv-loop μ-loop
-cast-at c = search needs
-
-loop-holds : tie.Need-loop-holds Inv-loop μ-loop
-loop-holds c = search needs
-
 put-block-requires : tie.Need-put-block-requires Inv-loop μ-loop
 put-block-requires c κs =
     let start = start-at (c .before) in
     ((c .before .loop-test .taken, passed (c .before)), (start .pre .1 .0, kept-room (start .pre .1 .1) (c .before .before .loop .inv .0)))
-
-sub-read : tie.Need-sub-read Inv-loop μ-loop
-sub-read c = search needs
-
-part-read-start : tie.Need-part-read-start Inv-loop μ-loop
-part-read-start c = search needs
-
-part-read-end : tie.Need-part-read-end Inv-loop μ-loop
-part-read-end c = search needs
-
-read-requires : tie.Need-read-requires Inv-loop μ-loop
-read-requires c κs = search needs
-
-size-requires : tie.Need-size-requires Inv-loop μ-loop
-size-requires c κs = search needs
 
 add-at : tie.Need-add-at Inv-loop μ-loop
 add-at c = record { fits = omega (arith, moved c, inside (turn c), turn c .loop-test .taken, start-at (turn c) .good) }
@@ -119,14 +98,14 @@ put-blocks-spec =
     (tie.spec
     Inv-loop
     μ-loop
-    cast-at
-    loop-holds
+    (λ c. search needs)
+    (λ c. search needs)
     put-block-requires
-    sub-read
-    part-read-start
-    part-read-end
-    read-requires
-    size-requires
+    (λ c. search needs)
+    (λ c. search needs)
+    (λ c. search needs)
+    (λ c κs. search needs)
+    (λ c κs. search needs)
     add-at
     loop-less
     loop-again

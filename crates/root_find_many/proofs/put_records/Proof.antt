@@ -53,9 +53,6 @@ add-last-2 c =
     let d = c .delta-at in
     next-fits (c .before .before .loop .inv .1) (b .passes) (start .args .block .count) (block-count b) (c .before .loop-test .taken) (d .result) (d .ok)
 
-key-at-requires : tie.Need-key-at-requires Inv-loop μ-loop
-key-at-requires c κs = search needs
-
 add-put-record : tie.Need-add-put-record Inv-loop μ-loop
 add-put-record c = record { fits = omega (arith, whole c, start-at c .good) }
 
@@ -72,12 +69,6 @@ put-record-requires : tie.Need-put-record-requires Inv-loop μ-loop
 put-record-requires c κs =
     let s = start-at (c .before) in
     (whole (c .before), (s .pre .1 .0, kept-room (s .pre .1 .1) (c .before .before .before .before .loop .inv .1 .kept)))
-
-add-i : tie.Need-add-i Inv-loop μ-loop
-add-i c = search needs
-
-loop-less : tie.Need-loop-less Inv-loop μ-loop
-loop-less c = search needs
 
 loop-again : tie.Need-loop-again Inv-loop μ-loop
 loop-again c =
@@ -114,12 +105,12 @@ put-records-spec =
     add-last
     cast-last
     add-last-2
-    key-at-requires
+    (λ c κs. search needs)
     add-put-record
     cast-put-record
     put-record-requires
-    add-i
-    loop-less
+    (λ c. search needs)
+    (λ c. search needs)
     loop-again
     same-length
     returns)

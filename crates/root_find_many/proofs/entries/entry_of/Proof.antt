@@ -8,18 +8,6 @@ use borrow.Author.Needs.{needs}
 use Rattle.root_find_many.proofs.entries.entry_of.Statement.{statement}
 use Rattle.root_find_many.proofs.entries.entry_of.Tie as tie
 
-array-write-entry : tie.Need-array-write-entry
-array-write-entry c = search needs
-
-part-requires : tie.Need-part-requires
-part-requires c κs = search needs
-
-slice-aggregate-copy : tie.Need-slice-aggregate-copy
-slice-aggregate-copy c = search needs
-
-copy-requires : tie.Need-copy-requires
-copy-requires c κs = search needs
-
 returns : tie.Need-returns
 returns c =
     let start = c .before .before .before .before .before in
@@ -29,4 +17,4 @@ returns c =
 
 pub entry-of-spec : {M : Type 1} → statement M
 entry-of-spec =
-    tie.close (tie.spec array-write-entry part-requires slice-aggregate-copy copy-requires returns)
+    tie.close (tie.spec (λ c. search needs) (λ c κs. search needs) (λ c. search needs) (λ c κs. search needs) returns)

@@ -31,16 +31,10 @@ loop-holds c =
     let p = c .before .before .pre in
     putting-none (a .ids .now) (a .entry .now) (a .id) (a .from) (a .output .now) (none-before (a .ids .now) (p .0) (a .id) (a .from) (p .1 .0))
 
-stands-requires : tie.Need-stands-requires Inv-loop μ-loop
-stands-requires c κs = search needs
-
 mul-copy : tie.Need-mul-copy Inv-loop μ-loop
 mul-copy c =
     let start = c .before .before .before .before .before .before .before in
     omega (arith, here (c .before .before) .0, start .pre .1 .1 .room, start .good)
-
-copy-requires : tie.Need-copy-requires Inv-loop μ-loop
-copy-requires c κs = search needs
 
 add-i : tie.Need-add-i Inv-loop μ-loop
 add-i c = omega (arith, here (c .before .before .before .before .before) .0)
@@ -80,9 +74,9 @@ put-equals-spec =
     Inv-loop
     μ-loop
     loop-holds
-    stands-requires
+    (λ c κs. search needs)
     mul-copy
-    copy-requires
+    (λ c κs. search needs)
     add-i
     loop-less
     loop-again

@@ -23,12 +23,6 @@ here c =
     let a = start-at (c .before .before) .args in
     stands-true (a .ids .now) (c .before .before .place .result) (a .id) (sym (c .before .stands .ensures) ∙ not-false _ (c .if1 .left))
 
-place-requires : tie.Need-place-requires
-place-requires c κs = search needs
-
-stands-requires : tie.Need-stands-requires
-stands-requires c κs = search needs
-
 returns : tie.Need-returns
 returns c =
     let start = start-at (c .before .before) in
@@ -59,12 +53,6 @@ returns-2 c =
       },
     )
 
-entry-of-requires : tie.Need-entry-of-requires
-entry-of-requires c κs = search needs
-
-put-equals-requires : tie.Need-put-equals-requires
-put-equals-requires c κs = search needs
-
 same-length : tie.Need-same-length
 same-length c = c .before .before .put-equals .ensures .0 .size
 
@@ -87,13 +75,13 @@ pub put-record-spec : {M : Type 1} → statement M
 put-record-spec =
     tie.close
     (tie.spec
-    place-requires
-    stands-requires
+    (λ c κs. search needs)
+    (λ c κs. search needs)
     returns
     mul-if2
     slice-read-if2
     returns-2
-    entry-of-requires
-    put-equals-requires
+    (λ c κs. search needs)
+    (λ c κs. search needs)
     same-length
     returns-3)
