@@ -1,7 +1,7 @@
 -- m5 to m8 and m10: root files.
 use mathlib.Core.Path.{refl}
 use Prim.{tt}
-use Rattle.parts.specs.Part.{sameBytes}
+use Rattle.parts.specs.Part.{sameBytes, partsFrom}
 use Rattle.numbers.specs.Number.{littleAt, within}
 use Rattle.md5.specs.Message.{littleBytes}
 use Rattle.refusal.specs.Check.{refusedIf, first, firstFrom}
@@ -12,12 +12,14 @@ use Rattle.root_layout.specs.Header.{hasMagic, longNumbers, layoutOf, headerChe
 use Rattle.root_block.specs.Ids.{signed, deltaAt, idAt, inRange, idCheck, idsCheck}
 use Rattle.root_block.specs.Block.{blockOf, blockSize, deltasOf, keyAt, counts, cutCheck, blockCheck}
 use Rattle.root.specs.Root.{blocksFrom, blocksCheck, rootCheck}
-use Rattle.root.specs.Lookup.{recordAt, recordsFrom, recordsIn, isId, wanted, foundIn, lookupOf}
+use Rattle.root.specs.Lookup.{recordAt, recordsFrom, recordsIn, firstOf, isId, wanted, keyTold, lookupOf}
 use Rattle.examples.specs.Examples.{EachHolds, m5, m6, m7, m8, m10}
 use Rattle.examples.proofs.Laws.{each}
 
 pub root-rows : EachHolds m5 × EachHolds m6 × EachHolds m7 × EachHolds m8 × EachHolds m10
-unfolding lookupOf foundIn wanted isId recordsIn recordsFrom recordAt rootCheck blocksCheck blocksFrom blockCheck cutCheck counts keyAt deltasOf blockSize blockOf idsCheck idCheck inRange idAt deltaAt signed headerCheck layoutOf longNumbers hasMagic layoutValues layoutFor headerSize ascii after refusedIf first firstFrom littleBytes littleAt within sameBytes
+unfolding lookupOf keyTold firstOf wanted isId recordsIn recordsFrom recordAt rootCheck blocksCheck blocksFrom blockCheck cutCheck counts keyAt
+    deltasOf blockSize blockOf idsCheck idCheck inRange idAt deltaAt signed headerCheck layoutOf longNumbers hasMagic layoutValues layoutFor
+    headerSize ascii after refusedIf first firstFrom littleBytes littleAt within sameBytes partsFrom
 root-rows = (
   each m5 (refl, (refl, (refl, (refl, tt)))),
   each m6 (refl, (refl, tt)),

@@ -2,7 +2,7 @@
 -- contracts use, with their checks, so they hold of what the functions answer.
 use mathlib.Core.Path.{_≡_}
 use mathlib.Core.List.{List, [], _∷_, _++_, map, List·Memᴰ}
-use Prim.Native.Nat.{ℕ}
+use Prim.Native.Nat.{ℕ, _+_}
 use lib.IntN.{ℤ, pos, negℤ}
 use lib.ListN.{length, replicate}
 use Rattle.refusal.specs.Check.{silent, refused}
@@ -12,13 +12,15 @@ use Rattle.index_layout.specs.Layout.{full, layoutWith, layoutOf}
 use Rattle.index_open.specs.Open.{opening}
 use Rattle.index_writer.specs.Write.{writeOutcome}
 use Rattle.index_lookup.specs.Lookup as index
-use Rattle.root_layout.specs.Header.{openOutcome}
+use Rattle.root_layout.specs.declared.Layout.{Layout}
+use Rattle.root_layout.specs.Layout.{headerSize}
+use Rattle.root_layout.specs.Header.{layoutValues, openOutcome}
 use Rattle.root.specs.Lookup as root
 use Rattle.key_text.specs.Text.{textCheck, textBytes, carried}
 use Rattle.text.specs.Text.{ascii}
 use Rattle.envelope.specs.Envelope as envelopes
 use Rattle.encoding_lookup.specs.Lookup.{specLookup, specString}
-use Rattle.examples.specs.Inputs.{one, none, settings, list, rootWith, rootOf, envelope, envelopeKey, encodingFile}
+use Rattle.examples.specs.Inputs.{one, none, settings, list, short, long, rootWith, rootOf, envelope, envelopeKey, encodingFile}
 
 -- A row: what a definition gives, and what the rule says.
 pub record Row : Type 1 where
@@ -109,25 +111,28 @@ m9 =
     ∷ (textCheck (ascii "0") 1 is refused 60 0)
     ∷ []
 
--- What is told of a file whose blocks begin at byte `start`, in literals: locale flags first (1), content flags of four bytes and not
--- five (0), 5 unknown bytes, name hashes after all keys and not each after its own (0), and none with content bit 13 (8192).
-abbrev pub laidOut : ℕ → Outcome
-laidOut start = answered (start ∷ 1 ∷ 0 ∷ 5 ∷ 0 ∷ 8192 ∷ [])
+-- What is told of a file with this layout.
+abbrev pub laidOut : Layout → Outcome
+laidOut l = answered (layoutValues l)
+
+-- Where the first key stands of a block of one record that stands first: after its header and its delta.
+abbrev pub firstKey : Layout → ℕ
+firstKey l = l .start + headerSize l + 4
 
 -- X10 (m10): short headers, a refused one and long ones: how the blocks are laid out, and where the lookup of
 -- id 5 finds the key of a block that stands right after that header.
 abbrev pub m10 : List Row
 m10 =
-    (openOutcome (rootWith 15 12 (pos 5 ∷ [])) is laidOut 12)
-    ∷ (openOutcome (rootWith 100 12 (pos 5 ∷ [])) is laidOut 12)
-    ∷ (openOutcome (rootWith 16 16 (pos 5 ∷ [])) is refusal 42 0)
-    ∷ (openOutcome (rootWith 20 20 (pos 5 ∷ [])) is laidOut 20)
-    ∷ (openOutcome (rootWith 99 99 (pos 5 ∷ [])) is laidOut 99)
-    ∷ (rootLookup (rootWith 15 12 (pos 5 ∷ [])) 5 is answered (33 ∷ []))
-    ∷ (rootLookup (rootWith 100 12 (pos 5 ∷ [])) 5 is answered (33 ∷ []))
-    ∷ (rootLookup (rootWith 16 16 (pos 5 ∷ [])) 5 is refusal 42 0)
-    ∷ (rootLookup (rootWith 20 20 (pos 5 ∷ [])) 5 is answered (41 ∷ []))
-    ∷ (rootLookup (rootWith 99 99 (pos 5 ∷ [])) 5 is answered (120 ∷ []))
+    (openOutcome (rootWith 15 short (pos 5 ∷ [])) is laidOut short)
+    ∷ (openOutcome (rootWith 100 short (pos 5 ∷ [])) is laidOut short)
+    ∷ (openOutcome (rootWith 16 (long 16) (pos 5 ∷ [])) is refusal 42 0)
+    ∷ (openOutcome (rootWith 20 (long 20) (pos 5 ∷ [])) is laidOut (long 20))
+    ∷ (openOutcome (rootWith 99 (long 99) (pos 5 ∷ [])) is laidOut (long 99))
+    ∷ (rootLookup (rootWith 15 short (pos 5 ∷ [])) 5 is answered (firstKey short ∷ []))
+    ∷ (rootLookup (rootWith 100 short (pos 5 ∷ [])) 5 is answered (firstKey short ∷ []))
+    ∷ (rootLookup (rootWith 16 (long 16) (pos 5 ∷ [])) 5 is refusal 42 0)
+    ∷ (rootLookup (rootWith 20 (long 20) (pos 5 ∷ [])) 5 is answered (41 ∷ []))
+    ∷ (rootLookup (rootWith 99 (long 99) (pos 5 ∷ [])) 5 is answered (120 ∷ []))
     ∷ []
 
 -- X11 (m11): an envelope without a table. Opening it tells one byte, and output of one byte is A then.

@@ -1,6 +1,8 @@
 -- The inputs of the examples.
+use mathlib.Core.Bool.{Bool, cond}
 use mathlib.Core.List.{List, [], _∷_, _++_}
 use Prim.Native.Nat.{ℕ, _+_, _-_, _*_}
+use lib.Dec.{eqb}
 use lib.IntN.{ℤ, pos, negsuc}
 use lib.ListN.{length, replicate}
 use Rattle.parts.specs.Part.{partsFrom}
@@ -8,6 +10,8 @@ use Rattle.md5.specs.Message.{littleBytes}
 use Rattle.text.specs.Text.{ascii}
 use Rattle.index_writer.specs.declared.Settings.{Settings}
 use Rattle.spec_table.specs.Specs.{runOf}
+use Rattle.root_layout.specs.declared.Layout.{Layout}
+use Rattle.root_layout.specs.Layout.{noMagicVersion, shortVersion, layoutFor}
 
 -- ---- archive index
 
@@ -44,22 +48,52 @@ abbrev pub deltaBytes : List ℤ → List ℕ
 deltaBytes [] = []
 deltaBytes (d ∷ ds) = signedBytes d ++ deltaBytes ds
 
--- A block of these deltas: their count, locale flags 1, content flags with bit 13 alone (8192: no name hashes), 4 and 1 unknown bytes,
--- the deltas, and 16 bytes for each key. Unknown bytes and keys are zeros.
-abbrev pub block : List ℤ → List ℕ
-block deltas =
-    littleBytes 4 (length deltas) ++ littleBytes 4 1 ++ littleBytes 4 8192 ++ replicate 5 0
-    ++ deltaBytes deltas
-    ++ replicate (16 * length deltas) 0
+-- The key and the name hash of record i, if there are any: bytes that tell it.
+abbrev pub key : ℕ → List ℕ
+key i = replicate 16 i
 
--- A root file with the numbers a and b = 2, which end at byte 12, and a block of these deltas at byte `start`.
-abbrev pub rootWith : (a start : ℕ) → List ℤ → List ℕ
-rootWith a start deltas =
-    ascii "MFST" ++ littleBytes 4 a ++ littleBytes 4 2 ++ replicate (start - 12) 0 ++ block deltas
+abbrev pub nameHash : (there : Bool) → ℕ → List ℕ
+nameHash there i = cond there (replicate 8 (128 + i)) []
+
+-- The flags of a block in the layout's order, locale flags 1.
+abbrev pub contentFlags : Layout → (content : ℕ) → List ℕ
+contentFlags l content = littleBytes (cond (l .«wide_content») 5 4) content
+
+abbrev pub flags : Layout → (content : ℕ) → List ℕ
+flags l content =
+    cond (l .«locale_first») (littleBytes 4 1 ++ contentFlags l content) (contentFlags l content ++ littleBytes 4 1)
+
+-- The keys and name hashes of n records, each hash after its key or all after all keys.
+abbrev pub keys : Layout → (hashes : Bool) → (n : ℕ) → List ℕ
+keys l hashes n =
+    cond (l .interleaved) (partsFrom (λ i. key i ++ nameHash hashes i) 0 n) (partsFrom key 0 n ++ partsFrom (nameHash hashes) 0 n)
+
+-- A block of these deltas under a layout: their count, flags, unknown bytes (zeros), the deltas, keys and name hashes. The content flags
+-- are those that drop the name hashes, if the layout has any.
+abbrev pub block : Layout → List ℤ → List ℕ
+block l deltas =
+    littleBytes 4 (length deltas) ++ flags l (l .«no_hashes»)
+    ++ replicate (l .unknown) 0
+    ++ deltaBytes deltas
+    ++ keys l (eqb (l .«no_hashes») 0) (length deltas)
+
+-- The layouts of files without magic, with a short header, and with a long one of a bytes and b = 2.
+abbrev pub noMagic : Layout
+noMagic = layoutFor 0 noMagicVersion
+
+abbrev pub short : Layout
+short = layoutFor 12 shortVersion
+
+abbrev pub long : ℕ → Layout
+long a = layoutFor a 2
+
+-- A root file with the numbers a and b = 2, which end at byte 12, and a block of these deltas where the layout has the first.
+abbrev pub rootWith : ℕ → Layout → List ℤ → List ℕ
+rootWith a l deltas = ascii "MFST" ++ littleBytes 4 a ++ littleBytes 4 2 ++ replicate (l .start - 12) 0 ++ block l deltas
 
 -- With a header of 20 bytes.
 abbrev pub rootOf : List ℤ → List ℕ
-rootOf deltas = rootWith 20 20 deltas
+rootOf deltas = rootWith 20 (long 20) deltas
 
 -- ---- envelope
 
