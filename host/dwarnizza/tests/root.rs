@@ -6,9 +6,9 @@ mod raw;
 use compare::{Tally, in_library_terms, refusal_at};
 use dwarnizza::root::Record;
 use dwarnizza::{Reason, Refusal, Root};
-use forge::faults::root::{Fault, NO_NAME_HASHES, RootFile, random_flags};
+use forge::faults::root::{Fault, RootFile, random_flags};
 use forge::random::Random;
-use second::root::{BlockParts, Header, MAGICS, write};
+use second::root::{BlockParts, Header, Layout, MAGICS, NO_NAME_HASHES, write};
 
 /// All locales.
 const ALL: u32 = u32::MAX;
@@ -131,10 +131,12 @@ fn m10_headers() {
     for magic in MAGICS {
         for b in (0..=6).chain([0x0200, 0x0200_0000, u32::MAX]) {
             for a in (0..=120).chain([0x1000, 0x1400_0000, u32::MAX]) {
-                let mut file = write(Some(Header { magic, a, b }), &[]);
+                let header = Some(Header { magic, a, b });
+                let block = Layout::behind(header).block_header;
+                let mut file = write(header, &[]);
                 let long = file.len() != 12;
                 file.truncate(12);
-                // Blocks of no record, in either layout.
+                // Blocks of no record.
                 file.resize(12 + 7 * 17, 0);
                 for length in 0..=file.len() {
                     let answer = compare_check(&file[..length]);
@@ -149,7 +151,7 @@ fn m10_headers() {
                         _ if long && length < a as usize => Some(Reason::RootHeaderCut),
                         _ => {
                             let start = if long { a as usize } else { 12 };
-                            let whole = (length - start).is_multiple_of(17);
+                            let whole = (length - start).is_multiple_of(block);
                             (!whole).then_some(Reason::BlockCut)
                         }
                     };

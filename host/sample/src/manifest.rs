@@ -1,16 +1,13 @@
 //! The root files and the encoding file of the sample build.
 
 use second::encoding::{ContentEntry, EncodingEntry, Parts, TableParts, paged};
-use second::root::{BlockParts, Header, Record};
+use second::root::{BlockParts, Header, NO_NAME_HASHES, Record};
 
 use crate::content::{Content, Locale, envelope_key};
 use crate::digest;
 
 /// The content flag of the files with the highest numbers.
 const LOW_VIOLENCE: u32 = 0x80;
-
-/// The content flag of blocks without name hashes.
-const NO_NAME_HASHES: u32 = 1 << 13;
 
 /// How many KB a page of the encoding file has.
 const PAGE_KB: u16 = 1;

@@ -4,14 +4,13 @@ mod layout;
 mod many;
 mod write;
 
-pub use layout::MAGICS;
+pub use layout::{Layout, MAGICS, NO_NAME_HASHES};
 pub use many::{find_many, find_many_into};
 pub use write::{BlockParts, Header, Record, write};
 
 use std::iter;
 
 use crate::refusal::{self, Refusal};
-use layout::Layout;
 
 /// How many bytes a content key has.
 const KEY: usize = 16;
@@ -88,9 +87,10 @@ impl<'a> Block<'a> {
         let field = |at: usize| u32::from_le_bytes(array(&header[at..]));
         let count = field(0) as usize;
         let content = field(layout.content_at);
-        let name_hashes = match content & layout.no_name_hashes {
-            0 => count,
-            _ => 0,
+        let name_hashes = if layout.has_name_hashes(content) {
+            count
+        } else {
+            0
         };
         let keys = layout.block_header + count * 4;
         let bytes = rest.get(..keys + count * KEY + name_hashes * NAME_HASH)?;

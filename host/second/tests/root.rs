@@ -2,11 +2,11 @@
 
 use second::refusal::{self, Refusal};
 use second::root::{
-    BlockParts, Found, Header, MAGICS, Record, check, find, find_many, find_many_into, write,
+    BlockParts, Found, Header, Layout, MAGICS, NO_NAME_HASHES, Record, check, find, find_many,
+    find_many_into, write,
 };
 
 const ALL: u32 = u32::MAX;
-const NO_NAME_HASHES: u32 = 1 << 13;
 
 /// A block of records with these deltas. Each key is of one byte, which counts up from this one.
 fn block(locale: u32, content: u32, first_key: u8, deltas: &[i32]) -> BlockParts {
@@ -71,7 +71,7 @@ fn m10_headers() {
             let file = write(header(a, b), &blocks);
             let key = Found {
                 key: [7; 16],
-                place: start + 17 + 4,
+                place: start + Layout::behind(header(a, b)).block_header + 4,
             };
             assert_eq!(find(&file, 5, 1, 0), Ok(Some(key)));
         }
@@ -90,7 +90,8 @@ fn m10_headers() {
         (0, 0),
     ] {
         let file = write(header(a, b), &blocks);
-        assert_eq!(find(&file, 5, 1, 0).unwrap().unwrap().place, 33);
+        let key = 12 + Layout::behind(header(a, b)).block_header + 4;
+        assert_eq!(find(&file, 5, 1, 0).unwrap().unwrap().place, key);
     }
     for a in [16, 19, 20, 99] {
         let file = write(header(a, 4), &blocks);
@@ -156,6 +157,7 @@ fn layouts() {
     assert_eq!((place(&others, 5), place(&others, 3)), (Some(37), Some(53)));
 
     // Content bit 13 drops the name hashes, except in version 1.
+    assert_eq!(NO_NAME_HASHES, 1 << 13);
     let bare = [block(1, NO_NAME_HASHES, 7, &[5]), block(1, 0, 9, &[6])];
     assert_eq!(place(&write(None, &bare), 6), Some(40 + 16));
     let file = write(header(1, 1), &bare);

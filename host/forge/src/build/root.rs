@@ -1,12 +1,9 @@
 //! Root files.
 
-use second::root::{BlockParts, Header, MAGICS, Record, write};
+use second::root::{BlockParts, Header, Layout, MAGICS, NO_NAME_HASHES, Record, write};
 
 use crate::damage::Place;
 use crate::random::Random;
-
-/// How many bytes stand before the deltas of a block, without a magic and with one.
-const BLOCK_HEADERS: [usize; 2] = [12, 17];
 
 /// A root file and the ids in it.
 #[derive(Clone, Debug)]
@@ -17,7 +14,7 @@ pub struct Root {
     pub ids: Vec<u32>,
     /// Where its blocks stand, and how many records they have.
     blocks: Vec<(usize, usize)>,
-    block_header: usize,
+    layout: Layout,
 }
 
 impl Root {
@@ -35,7 +32,7 @@ impl Root {
             file: write(header, &blocks),
             ids: blocks.iter().flat_map(ids).collect(),
             blocks: places,
-            block_header: BLOCK_HEADERS[usize::from(header.is_some())],
+            layout: Layout::behind(header),
         }
     }
 
@@ -45,10 +42,10 @@ impl Root {
             return Place::alone(random.pick(&[0, 4, 8]), 4);
         }
         let (at, records) = random.pick(&self.blocks);
-        let deltas = at + self.block_header;
+        let deltas = at + self.layout.block_header;
         let at = match random.within(0..=3) {
             0 => at,
-            1 => at + random.pick(&[4, 8]),
+            1 => at + random.pick(&[self.layout.locale_at, self.layout.content_at]),
             _ => deltas + 4 * random.within(0..=records.max(1) - 1),
         };
         Place::alone(at, 4)
@@ -97,12 +94,12 @@ fn delta(random: &mut Random) -> i32 {
     }
 }
 
-/// Few bits, bit 13 often.
+/// Few bits, that of name hashes often.
 pub fn flags(random: &mut Random) -> u32 {
     match random.within(0..=4) {
         0 => 0,
         1 => u32::MAX,
-        2 => 1 << 13 | 2,
+        2 => NO_NAME_HASHES | 2,
         _ => 1 << random.within(0..=31) | 2,
     }
 }

@@ -1,12 +1,9 @@
 //! Root files.
 
 use second::refusal::{self, Refusal};
-use second::root::{BlockParts, Header, MAGICS, Record, write};
+use second::root::{BlockParts, Header, Layout, MAGICS, NO_NAME_HASHES, Record, write};
 
 use crate::random::Random;
-
-/// The content flag that drops name hashes where there is a magic.
-pub const NO_NAME_HASHES: u32 = 1 << 13;
 
 /// The first id of the upper half of the range.
 const MIDDLE: i64 = 1 << 31;
@@ -16,6 +13,8 @@ const MIDDLE: i64 = 1 << 31;
 pub struct RootFile {
     /// Its header; none without a magic.
     pub header: Option<Header>,
+    /// How its blocks are laid out.
+    pub layout: Layout,
     /// Its blocks.
     pub blocks: Vec<BlockParts>,
     /// The file.
@@ -37,6 +36,7 @@ impl RootFile {
         let bytes = write(header, &blocks);
         Self {
             header,
+            layout: Layout::behind(header),
             blocks,
             bytes,
         }
@@ -55,26 +55,15 @@ impl RootFile {
         write(self.header, &self.blocks[..block]).len()
     }
 
-    /// How many bytes of a block stand before its deltas.
-    fn block_header(&self) -> usize {
-        match self.header {
-            None => 12,
-            Some(_) => 17,
-        }
-    }
-
     /// Where a record's delta stands.
     pub fn delta(&self, block: usize, record: usize) -> usize {
-        self.place(block) + self.block_header() + 4 * record
+        self.place(block) + self.layout.block_header + 4 * record
     }
 
     /// Where a record's key stands.
     pub fn key(&self, block: usize, record: usize) -> usize {
         let first = self.delta(block, self.blocks[block].records.len());
-        match self.header {
-            None => first + 24 * record,
-            Some(_) => first + 16 * record,
-        }
+        first + self.layout.key_step * record
     }
 
     /// The block and the number of each record in file order.

@@ -1,5 +1,6 @@
 //! The start of a root file, and how its blocks are laid out.
 
+use super::write::Header;
 use super::{KEY, NAME_HASH, array};
 use crate::refusal::{self, Refusal};
 
@@ -15,12 +16,17 @@ const LEAST_LONG_HEADER: u32 = 20;
 /// The version that is refused.
 const REFUSED_VERSION: u32 = 4;
 
+/// The content flag that drops the name hashes in files with a magic.
+pub const NO_NAME_HASHES: u32 = 1 << 13;
+
 /// How the blocks of a file are laid out. All start with the count, and their deltas follow the
 /// header.
 #[derive(Clone, Copy, Debug)]
 pub struct Layout {
     /// How many bytes stand before the deltas.
     pub block_header: usize,
+    /// How many of them are unknown; they stand last.
+    pub unknown: usize,
     /// Where the content flags stand in a block.
     pub content_at: usize,
     /// Where the locale flags stand.
@@ -34,6 +40,7 @@ pub struct Layout {
 /// Without a magic: count, content flags, locale flags; each key is followed by its name hash.
 const VERSION_1: Layout = Layout {
     block_header: 12,
+    unknown: 0,
     content_at: 4,
     locale_at: 8,
     key_step: KEY + NAME_HASH,
@@ -44,25 +51,41 @@ const VERSION_1: Layout = Layout {
 /// keys.
 const OTHERS: Layout = Layout {
     block_header: 17,
+    unknown: 5,
     content_at: 8,
     locale_at: 4,
     key_step: KEY,
-    no_name_hashes: 1 << 13,
+    no_name_hashes: NO_NAME_HASHES,
 };
 
 impl Layout {
+    /// The layout of the blocks behind a header; without one, of version 1.
+    pub fn behind(header: Option<Header>) -> Self {
+        match header {
+            None => VERSION_1,
+            Some(_) => OTHERS,
+        }
+    }
+
+    /// Whether a block with these content flags has name hashes.
+    pub fn has_name_hashes(&self, content: u32) -> bool {
+        content & self.no_name_hashes == 0
+    }
+
     /// Where the first block of a file stands, and the layout; refuses with 43, 44, 42, 43.
     pub fn of(file: &[u8]) -> Result<(usize, Self), Refusal> {
         if !MAGICS.iter().any(|magic| file.starts_with(magic)) {
-            return Ok((0, VERSION_1));
+            return Ok((0, Self::behind(None)));
         }
         if file.len() < SHORT_HEADER {
             return Err(refusal::ROOT_HEADER_CUT);
         }
+        let magic = array(file);
         let a = u32::from_le_bytes(array(&file[4..]));
         let b = u32::from_le_bytes(array(&file[8..]));
+        let layout = Self::behind(Some(Header { magic, a, b }));
         if !is_long(a, b) {
-            return Ok((SHORT_HEADER, OTHERS));
+            return Ok((SHORT_HEADER, layout));
         }
         if b == REFUSED_VERSION {
             return Err(refusal::ROOT_VERSION);
@@ -73,7 +96,7 @@ impl Layout {
         if file.len() < a as usize {
             return Err(refusal::ROOT_HEADER_CUT);
         }
-        Ok((a as usize, OTHERS))
+        Ok((a as usize, layout))
     }
 }
 

@@ -1,6 +1,6 @@
 //! Root files from their parts.
 
-use super::layout::is_long;
+use super::layout::{Layout, is_long};
 use super::{KEY, NAME_HASH};
 
 /// The start of a file with a magic: that, and the two numbers after it. A long header is filled up
@@ -22,7 +22,7 @@ pub struct BlockParts {
     pub locale: u32,
     /// The content flags.
     pub content: u32,
-    /// The unknown bytes, which version 1 has not.
+    /// The unknown bytes, if the layout has any.
     pub unknown: [u8; 5],
     /// The records.
     pub records: Vec<Record>,
@@ -41,12 +41,10 @@ pub struct Record {
 
 /// The file of these blocks, in version 1 where there is no header.
 pub fn write(header: Option<Header>, blocks: &[BlockParts]) -> Vec<u8> {
+    let layout = Layout::behind(header);
     let mut file = header.map_or(Vec::new(), Header::bytes);
     for block in blocks {
-        match header {
-            None => block.put_version_1(&mut file),
-            Some(_) => block.put(&mut file),
-        }
+        block.put(&mut file, &layout);
     }
     file
 }
@@ -65,40 +63,36 @@ impl Header {
 }
 
 impl BlockParts {
-    fn put_version_1(&self, file: &mut Vec<u8>) {
-        self.put_words(file, [self.content, self.locale]);
-        self.put_deltas(file);
-        for record in &self.records {
-            file.extend(record.key);
-            file.extend(record.name_hash);
+    fn put(&self, file: &mut Vec<u8>, layout: &Layout) {
+        file.extend(self.header(layout));
+        let records = &self.records;
+        file.extend(records.iter().flat_map(|record| record.delta.to_le_bytes()));
+        if layout.key_step == KEY {
+            file.extend(records.iter().flat_map(|record| record.key));
+            if layout.has_name_hashes(self.content) {
+                file.extend(records.iter().flat_map(|record| record.name_hash));
+            }
+        } else {
+            for record in records {
+                file.extend(record.key);
+                file.extend(record.name_hash);
+            }
         }
     }
 
-    fn put(&self, file: &mut Vec<u8>) {
-        self.put_words(file, [self.locale, self.content]);
-        file.extend(self.unknown);
-        self.put_deltas(file);
-        file.extend(self.records.iter().flat_map(|record| record.key));
-        if self.content >> 13 & 1 == 0 {
-            file.extend(self.records.iter().flat_map(|record| record.name_hash));
-        }
-    }
-
-    /// The count, and the flags in this order.
-    fn put_words(&self, file: &mut Vec<u8>, flags: [u32; 2]) {
+    /// What stands before the deltas.
+    fn header(&self, layout: &Layout) -> Vec<u8> {
         let count = u32::try_from(self.records.len()).expect("a block counts its records");
-        file.extend(
-            [count, flags[0], flags[1]]
-                .into_iter()
-                .flat_map(u32::to_le_bytes),
-        );
-    }
-
-    fn put_deltas(&self, file: &mut Vec<u8>) {
-        file.extend(
-            self.records
-                .iter()
-                .flat_map(|record| record.delta.to_le_bytes()),
-        );
+        let mut header = vec![0; layout.block_header];
+        for (at, number) in [
+            (0, count),
+            (layout.content_at, self.content),
+            (layout.locale_at, self.locale),
+        ] {
+            header[at..at + 4].copy_from_slice(&number.to_le_bytes());
+        }
+        let unknown_at = layout.block_header - layout.unknown;
+        header[unknown_at..].copy_from_slice(&self.unknown[..layout.unknown]);
+        header
     }
 }

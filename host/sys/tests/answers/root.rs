@@ -1,5 +1,5 @@
 use dwarnizza_sys::{dwarnizza_root_check, dwarnizza_root_find, dwarnizza_root_find_many};
-use second::root::{BlockParts, Header, Record};
+use second::root::{BlockParts, Header, Layout, Record};
 
 use crate::call::{ABSENT, Answer, answer, answered, one_input, refused};
 
@@ -18,16 +18,25 @@ fn file() -> Vec<u8> {
             name_hash: [0; 8],
         }],
     };
-    let header = Header {
-        magic: *b"TSFM",
-        a: 2,
-        b: 0,
-    };
-    second::root::write(Some(header), &[block(1, 0, 7), block(2, 1, 8)])
+    second::root::write(Some(HEADER), &[block(1, 0, 7), block(2, 1, 8)])
 }
 
-/// Where the blocks stand in the file.
-const BLOCKS: [usize; 2] = [12, 57];
+const HEADER: Header = Header {
+    magic: *b"TSFM",
+    a: 2,
+    b: 0,
+};
+
+/// How many bytes of a block stand before its delta.
+fn block_header() -> usize {
+    Layout::behind(Some(HEADER)).block_header
+}
+
+/// Where the second block stands in the file: behind the header and the first, whose one record has
+/// 28 bytes.
+fn second_block() -> usize {
+    12 + block_header() + 28
+}
 
 /// The answer, and the key that was lent.
 fn find(file: &[u8], id: u32, locale: u32, unwanted: u64) -> (Answer, [u8; 16]) {
@@ -44,8 +53,9 @@ fn find(file: &[u8], id: u32, locale: u32, unwanted: u64) -> (Answer, [u8; 16]) 
 fn each_call_writes_the_whole_answer() {
     let file = file();
     assert_eq!(one_input(dwarnizza_root_check, &file), (0, [0; 8]));
+    let blocks = [12, second_block()];
     for (locale, block, key) in [(1, 0, [7; 16]), (2, 1, [8; 16]), (3, 0, [7; 16])] {
-        let found = (answered(BLOCKS[block] + 21), key);
+        let found = (answered(blocks[block] + block_header() + 4), key);
         assert_eq!(find(&file, 5, locale, 0), found);
     }
     for (id, locale, unwanted) in [(4, 3, 0), (6, 3, 0), (5, 0, 0), (5, 4, 0), (5, 2, 1)] {
@@ -61,10 +71,10 @@ fn each_refusal_writes_the_whole_answer() {
         assert_eq!(one_input(dwarnizza_root_check, file), refused);
         assert_eq!(find(file, 5, 1, 0), (refused, UNTOUCHED));
     };
-    expect(&file[..file.len() - 1], 40, BLOCKS[1]);
+    expect(&file[..file.len() - 1], 40, second_block());
     // The sign of the second block's delta.
-    file[BLOCKS[1] + 20] = 0x80;
-    expect(&file, 41, BLOCKS[1]);
+    file[second_block() + block_header() + 3] = 0x80;
+    expect(&file, 41, second_block());
     file[4] = 20;
     file[8] = 4;
     expect(&file, 44, 0);
@@ -150,5 +160,5 @@ fn many_ids_refuse_in_order() {
     expect(&file, &falling, 39, 161, 3);
     falling.push(0);
     expect(&file, &falling, 39, 12, 0);
-    expect(&file[..file.len() - 1], &falling, 39, 40, BLOCKS[1]);
+    expect(&file[..file.len() - 1], &falling, 39, 40, second_block());
 }
