@@ -9,7 +9,7 @@ use Rattle.md5.specs.Message.{littleBytes, padding, initial, digestOf, md5}
 use Rattle.refusal.specs.Check.{refusedIf, first, firstFrom}
 use Rattle.refusal.specs.Outcome.{after}
 use Rattle.halving.specs.Halving.{halve, halving, halvedOnce}
-use Rattle.index_layout.specs.Layout.{layoutFrom, pagesFor, entrySize, full, onPage, entryAt, lastKeyAt, indexLength}
+use Rattle.index_layout.specs.Layout.{layoutFrom, pagesFor, entrySize, full, placedOn, onPage, entryAt, lastKeyAt, indexLength}
 use Rattle.index_layout.specs.Entries.{sizeAt, locationAt}
 use Rattle.index_open.specs.Open.{fieldCheck, fieldsCheckWith, footerHashCheck, footerCheck, opening}
 use Rattle.index_lookup.specs.Lookup.{storedIn, slotHalved, endedAt, endedOn, pageHalved, endedFrom, ended, endOutcome, keyCheck, lookupOf}
@@ -18,7 +18,7 @@ use Rattle.examples.specs.Examples.{EachHolds, m1, m2, m3, m4}
 use Rattle.examples.proofs.Laws.{each}
 
 pub index-rows : EachHolds m1 × EachHolds m2 × EachHolds m3 × EachHolds m4
-unfolding writeCheck inputCheck settingsRight listOrderCheck keyIn layoutFor listCount listEntrySize lookupOf keyCheck endOutcome ended endedFrom endedOn endedAt pageHalved slotHalved storedIn halve halving halvedOnce opening footerCheck fieldsCheckWith fieldCheck footerHashCheck sizeAt locationAt layoutFrom pagesFor entrySize full onPage entryAt lastKeyAt indexLength compared decided addends shifts mixed wordNumber turned step steps word wordsOf sum block blocks littleBytes padding initial digestOf md5 after refusedIf first firstFrom bigAt littleAt within sameBytes partsFrom
+unfolding writeCheck inputCheck settingsRight listOrderCheck keyIn layoutFor listCount listEntrySize lookupOf keyCheck endOutcome ended endedFrom endedOn endedAt pageHalved slotHalved storedIn halve halving halvedOnce opening footerCheck fieldsCheckWith fieldCheck footerHashCheck sizeAt locationAt layoutFrom pagesFor entrySize full placedOn onPage entryAt lastKeyAt indexLength compared decided addends shifts mixed wordNumber turned step steps word wordsOf sum block blocks littleBytes padding initial digestOf md5 after refusedIf first firstFrom bigAt littleAt within sameBytes partsFrom
 index-rows = (
   each m1 (refl, (refl, (refl, (refl, (refl, tt))))),
   each m2 (refl, tt),

@@ -2,15 +2,16 @@
 use mathlib.Core.Path.{_≡_, refl, _∙_}
 use mathlib.Core.List.{List, [], _∷_}
 use Prim.Native.Nat.{ℕ, zero, suc}
+use native.Mathlib.Nat.{zero-mul}
 use native.Mathlib.Omega.{arith}
 use Rattle.key.specs.declared.Order.{Order}
 use Rattle.refusal.specs.Check.{silent}
 use Rattle.refusal.specs.Outcome.{absent}
 use Rattle.halving.specs.Halving.{halve, halving}
 use Rattle.index_layout.specs.declared.Layout.{Layout}
-use Rattle.index_layout.specs.Layout.{onPage, layoutOf}
+use Rattle.index_layout.specs.Layout.{full, layoutOf}
 use Rattle.index_open.specs.Open.{opening}
-use Rattle.index_open.proofs.Opened.{opened, on-page-some}
+use Rattle.index_open.proofs.Opened.{opened, entries-left}
 use Rattle.index_lookup.specs.Lookup.{storedIn, pageHalved, endedFrom, ended, endOutcome}
 use Rattle.index_lookup.proofs.Laws.{opened-lookup}
 use Rattle.examples.specs.Examples.{NoEntries}
@@ -24,12 +25,11 @@ no-page s l (suc pages) entries last key e = absurd (omega arith)
 
 -- no entries take no page
 pages-none : (s : List ℕ) → opening s ≡ silent → layoutOf s .entries ≡ 0 → layoutOf s .pages ≡ 0
-unfolding onPage
 pages-none s e none = go (layoutOf s .pages) refl
   where
     go : (p : ℕ) → layoutOf s .pages ≡ p → p ≡ 0
     go zero g = refl
-    go (suc p) g = absurd (omega (arith, on-page-some s (opened s e) 0 (omega (arith, g))))
+    go (suc p) g = absurd (omega (arith, entries-left s (opened s e) 0 (omega (arith, g)), zero-mul (full (layoutOf s))))
 
 pub no-entries : NoEntries
 unfolding storedIn

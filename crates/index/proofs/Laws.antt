@@ -2,18 +2,17 @@
 use mathlib.Core.Path.{_≡_, refl, sym, ap, _∙_}
 use mathlib.Core.Bool.{Bool, true, false, not}
 use mathlib.Core.List.{List}
-use Prim.Native.Nat.{ℕ, _+_, _-_, _*_, _≤_, _<_}
+use Prim.Native.Nat.{ℕ, _+_, _-_, _≤_, _<_}
 use native.Mathlib.Omega.{arith}
 use lib.Dec.{ltb, eqb}
 use Rattle.key.specs.Order.{compared, isBelow}
-use Rattle.parts.specs.Part.{partAt}
 use Rattle.rising.specs.Fall.{risesAt, fallFrom}
 use Rattle.rising.proofs.Laws.{fall-check, fall-low}
-use Rattle.refusal.specs.Check.{silent, refused, refusedIf, first, firstFrom}
+use Rattle.refusal.specs.Check.{Check, silent, refused, refusedIf, first, firstFrom}
 use Rattle.refusal.specs.Number.{index-order}
 use Rattle.refusal.proofs.Laws.{said, quiet, upto-said, upto-quiet}
 use Rattle.index_layout.specs.declared.Layout.{Layout}
-use Rattle.index_layout.specs.Layout.{pageSize, entrySize, full, onPage, entryNumber, pageAt, keyAt}
+use Rattle.index_layout.specs.Layout.{entrySize, onPage, entryNumber, pageOf, keyAt}
 use Rattle.index_layout.proofs.Laws.{page-key}
 use Rattle.index.specs.Check.{keyBefore, notAbove, orderCheck}
 use borrow.Author.Tests.{lt-ltb, le-ltb, ne-eqb}
@@ -46,26 +45,31 @@ module _ (s : List ℕ) (l : Layout) (p : ℕ) where
 
 -- the order of a page's entries from the second on, by the first that falls
 module _ (s : List ℕ) (l : Layout) (p : ℕ) where
-  rest-rising : firstFrom (orderCheck s l p) 1 (onPage l p - 1)
-      ≡ refusedIf (ltb (fallFrom (partAt s (pageAt p) pageSize) (entrySize l) (l .«key_length») 1 (onPage l p - 1)) (1 + (onPage l p - 1))) index-order
-      (p * full l + fallFrom (partAt s (pageAt p) pageSize) (entrySize l) (l .«key_length») 1 (onPage l p - 1))
+  abbrev rest : Check
+  rest = firstFrom (orderCheck s l p) 1 (onPage l p - 1)
+
+  abbrev first-fall : ℕ
+  first-fall = fallFrom (pageOf s p) (entrySize l) (l .«key_length») 1 (onPage l p - 1)
+
+  rest-rising : rest ≡ refusedIf (ltb first-fall (1 + (onPage l p - 1))) index-order (entryNumber l p first-fall)
   unfolding orderCheck risesAt
   rest-rising =
-      fall-check (partAt s (pageAt p) pageSize) (entrySize l) (l .«key_length») (orderCheck s l p) index-order (λ j. p * full l + j) 1 (onPage l p - 1)
-      (λ j a b. ap (λ t. refusedIf t index-order (p * full l + j)) (not-above-next s l p j _ _ _ a refl (page-key s l p (j - 1) (omega arith)) (page-key s l p j (omega arith))))
+      fall-check (pageOf s p) (entrySize l) (l .«key_length») (orderCheck s l p) index-order (entryNumber l p) 1 (onPage l p - 1)
+      (λ j a b. ap (λ t. refusedIf t index-order (entryNumber l p j))
+      (not-above-next s l p j _ _ _ a refl (page-key s l p (j - 1) (omega arith)) (page-key s l p j (omega arith))))
 
-  module _ (page : List ℕ) (size count fall : ℕ) (e : page ≡ partAt s (pageAt p) pageSize) (z : size ≡ entrySize l) (n : count ≡ onPage l p)
+  module _ (page : List ℕ) (size count fall : ℕ) (e : page ≡ pageOf s p) (z : size ≡ entrySize l) (n : count ≡ onPage l p)
       (f : fall ≡ fallFrom page size (l .«key_length») 1 (count - 1)) where
-    fall-is : fall ≡ fallFrom (partAt s (pageAt p) pageSize) (entrySize l) (l .«key_length») 1 (onPage l p - 1)
+    fall-is : fall ≡ first-fall
     fall-is = f ∙ rw (e, z, n)
 
-    rest-told : firstFrom (orderCheck s l p) 1 (onPage l p - 1) ≡ refusedIf (ltb fall (1 + (onPage l p - 1))) index-order (p * full l + fall)
-    rest-told = rest-rising ∙ ap (λ m. refusedIf (ltb m (1 + (onPage l p - 1))) index-order (p * full l + m)) (sym fall-is)
+    rest-told : rest ≡ refusedIf (ltb fall (1 + (onPage l p - 1))) index-order (entryNumber l p fall)
+    rest-told = rest-rising ∙ ap (λ m. refusedIf (ltb m (1 + (onPage l p - 1))) index-order (entryNumber l p m)) (sym fall-is)
 
-    pub rest-said : fall < count → firstFrom (orderCheck s l p) 1 (onPage l p - 1) ≡ refused index-order (p * full l + fall)
+    pub rest-said : fall < count → rest ≡ refused index-order (entryNumber l p fall)
     rest-said h = said rest-told (lt-ltb fall (1 + (onPage l p - 1)) (omega arith))
 
-    pub rest-quiet : count ≤ fall → firstFrom (orderCheck s l p) 1 (onPage l p - 1) ≡ silent
+    pub rest-quiet : count ≤ fall → rest ≡ silent
     rest-quiet h =
         let low = fall-low page size (l .«key_length») 1 (count - 1) in
-        quiet index-order (p * full l + fall) rest-told (le-ltb fall (1 + (onPage l p - 1)) (omega (arith, low, f)))
+        quiet index-order (entryNumber l p fall) rest-told (le-ltb fall (1 + (onPage l p - 1)) (omega (arith, low, f)))

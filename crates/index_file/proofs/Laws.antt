@@ -9,7 +9,7 @@ use Rattle.parts.specs.Part.{partAt, partsFrom, overlay}
 use Rattle.parts.proofs.Laws.{overlay-after, overlay-before}
 use Rattle.parts.proofs.Parts.{part-laid, parts-length}
 use Rattle.index_layout.specs.declared.Layout.{Layout}
-use Rattle.index_layout.specs.Layout.{pageSize, hashLength, entrySize, onPage, pageAt, pageOf}
+use Rattle.index_layout.specs.Layout.{pageSize, hashLength, entrySize, placedOn, pageAt, pageOf}
 use Rattle.md5.specs.Message.{md5}
 use Rattle.index_footer.proofs.Laws.{first-eight-length}
 use Rattle.index_file.specs.File.{entriesIn, pageIn}
@@ -20,7 +20,7 @@ take-zeros (suc n) zero h = absurd (not-suc-le-zero h)
 take-zeros (suc n) (suc m) h = ap (λ (r : List ℕ). 0 ∷ r) (take-zeros n m (le-of-suc-le-suc h))
 
 -- a turn of the loop that writes a page: its entries, then zeros
-pub page-laid : (list : List ℕ) (l : Layout) (p : ℕ) (entries zeros out old mid : List ℕ) (to rest : ℕ) → entries ≡ entriesIn list l p → rest ≡ pageSize - onPage l p * entrySize l
+pub page-laid : (list : List ℕ) (l : Layout) (p : ℕ) (entries zeros out old mid : List ℕ) (to rest : ℕ) → entries ≡ entriesIn list l p → rest ≡ pageSize - placedOn l p * entrySize l
     → zeros ≡ partAt (replicate pageSize 0) 0 rest → to ≡ 0 + length (partsFrom (pageIn list l) 0 p) → old ≡ overlay out 0 (partsFrom (pageIn list l) 0 p)
     → mid ≡ overlay old to entries
     → (to + length entries + rest ≡ 0 + length (partsFrom (pageIn list l) 0 (p + 1)))

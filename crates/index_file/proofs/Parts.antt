@@ -13,8 +13,8 @@ use Rattle.md5.specs.Message.{md5}
 use Rattle.refusal.specs.Check.{silent}
 use Rattle.refusal.specs.Output.{filled}
 use Rattle.index_layout.specs.declared.Layout.{Layout}
-use Rattle.index_layout.specs.Layout.{pageSize, hashLength, entrySize, full, onPage, entryNumber, lastKeyAt, pageHashAt, indexLength, pageOf}
-use Rattle.index_layout.proofs.Laws.{key-within, on-page-fits}
+use Rattle.index_layout.specs.Layout.{pageSize, hashLength, entrySize, full, placedOn, placedNumber, lastKeyAt, pageHashAt, indexLength, pageOf}
+use Rattle.index_layout.proofs.Laws.{key-within, placed-fits}
 use Rattle.index_open.proofs.Opened.{pages-tight}
 use Rattle.index_file.specs.File.{listAt, entriesIn, pageIn, lastKeyIn, pageHashIn, pages, lastKeys, pageHashes, hashesOf, fileOf}
 use Rattle.index_file.specs.Held.{Held}
@@ -23,40 +23,40 @@ use Rattle.index_footer.proofs.Laws.{keys-begin, hashes-begin, footer-begins, i
 
 module _ (list : List ℕ) (l : Layout) (h : Held list l) where
   -- the entries up to the end of a page are there
-  pub some-on-page : (p : ℕ) → p < l .pages → (entryNumber l p (onPage l p) ≤ l .entries) × (1 ≤ onPage l p)
-  unfolding onPage
-  some-on-page p k =
+  pub some-placed : (p : ℕ) → p < l .pages → (placedNumber l p (placedOn l p) ≤ l .entries) × (1 ≤ placedOn l p)
+  unfolding placedOn
+  some-placed p k =
       let tight : p * full l < l .entries = pages-tight (l .entries) (full l) p (h .holds) (rw (h .paged) at k) in
       (omega (arith, tight), omega (arith, tight, h .holds))
 
   -- every page but the last is full
-  pub page-full : (p : ℕ) → p + 1 < l .pages → onPage l p ≡ full l
-  unfolding onPage
+  pub page-full : (p : ℕ) → p + 1 < l .pages → placedOn l p ≡ full l
+  unfolding placedOn
   page-full p k =
       omega (arith, pages-tight (l .entries) (full l) (p + 1) (h .holds) (rw (h .paged) at k), add-mul p 1 (full l), one-mul (full l))
 
-  entries-inside : (p : ℕ) → p < l .pages → listAt l p 0 + onPage l p * entrySize l ≤ length list
+  entries-inside : (p : ℕ) → p < l .pages → listAt l p 0 + placedOn l p * entrySize l ≤ length list
   entries-inside p k =
-      omega (arith, h .bytes, mul-le-mul-right (entrySize l) (some-on-page p k .0), add-mul (p * full l) (onPage l p) (entrySize l), ap (λ n. n * entrySize l) (add-zero (p * full l)))
+      omega (arith, h .bytes, mul-le-mul-right (entrySize l) (some-placed p k .0), add-mul (p * full l) (placedOn l p) (entrySize l), ap (λ n. n * entrySize l) (add-zero (p * full l)))
 
-  pub entries-length : (p : ℕ) → p < l .pages → length (entriesIn list l p) ≡ onPage l p * entrySize l
-  entries-length p k = partAt-inside list (listAt l p 0) (onPage l p * entrySize l) (entries-inside p k)
+  pub entries-length : (p : ℕ) → p < l .pages → length (entriesIn list l p) ≡ placedOn l p * entrySize l
+  entries-length p k = partAt-inside list (listAt l p 0) (placedOn l p * entrySize l) (entries-inside p k)
 
   pub page-length : (p : ℕ) → p < l .pages → length (pageIn list l p) ≡ pageSize
   unfolding pageIn
   page-length p k =
-      length-append (entriesIn list l p) (replicate (pageSize - onPage l p * entrySize l) 0)
-      ∙ ap₂ _+_ (entries-length p k) (length-replicate (pageSize - onPage l p * entrySize l) 0) ∙ omega (arith, on-page-fits l p)
+      length-append (entriesIn list l p) (replicate (pageSize - placedOn l p * entrySize l) 0)
+      ∙ ap₂ _+_ (entries-length p k) (length-replicate (pageSize - placedOn l p * entrySize l) 0) ∙ omega (arith, placed-fits l p)
 
-  last-inside : (p : ℕ) → p < l .pages → listAt l p (onPage l p - 1) + l .«key_length» ≤ length list
+  last-inside : (p : ℕ) → p < l .pages → listAt l p (placedOn l p - 1) + l .«key_length» ≤ length list
   last-inside p k =
-      let some = some-on-page p k in
-      let one : entryNumber l p (onPage l p - 1) + 1 ≤ l .entries = omega (arith, some .0, some .1) in
-      omega (arith, h .bytes, key-within l, mul-le-mul-right (entrySize l) one, add-mul (entryNumber l p (onPage l p - 1)) 1 (entrySize l), one-mul (entrySize l))
+      let some = some-placed p k in
+      let one : placedNumber l p (placedOn l p - 1) + 1 ≤ l .entries = omega (arith, some .0, some .1) in
+      omega (arith, h .bytes, key-within l, mul-le-mul-right (entrySize l) one, add-mul (placedNumber l p (placedOn l p - 1)) 1 (entrySize l), one-mul (entrySize l))
 
   pub last-key-length : (p : ℕ) → p < l .pages → length (lastKeyIn list l p) ≡ l .«key_length»
   unfolding lastKeyIn
-  last-key-length p k = partAt-inside list (listAt l p (onPage l p - 1)) (l .«key_length») (last-inside p k)
+  last-key-length p k = partAt-inside list (listAt l p (placedOn l p - 1)) (l .«key_length») (last-inside p k)
 
   pub pages-length : length (pages list l) ≡ lastKeyAt l 0
   unfolding pages

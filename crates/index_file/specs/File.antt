@@ -5,24 +5,24 @@ use lib.ListN.{take, replicate}
 use Rattle.parts.specs.Part.{partAt, partsFrom}
 use Rattle.md5.specs.Message.{md5}
 use Rattle.index_layout.specs.declared.Layout.{Layout}
-use Rattle.index_layout.specs.Layout.{pageSize, hashLength, entrySize, onPage, entryNumber, pageOf}
+use Rattle.index_layout.specs.Layout.{pageSize, hashLength, entrySize, placedOn, placedNumber, pageOf}
 use Rattle.index_footer.specs.Footer.{footerWith}
 
 -- Where slot i of page p stands in the list, which has nothing between its entries (rule I15).
 abbrev pub listAt : Layout → ℕ → ℕ → ℕ
-listAt l p i = entryNumber l p i * entrySize l
+listAt l p i = placedNumber l p i * entrySize l
 
 -- The entries of page p (rule I7).
 abbrev pub entriesIn : List ℕ → Layout → ℕ → List ℕ
-entriesIn list l p = partAt list (listAt l p 0) (onPage l p * entrySize l)
+entriesIn list l p = partAt list (listAt l p 0) (placedOn l p * entrySize l)
 
 -- A page: its entries, and zeros after them (rule I8).
 unfoldable pub pageIn : List ℕ → Layout → ℕ → List ℕ
-pageIn list l p = entriesIn list l p ++ replicate (pageSize - onPage l p * entrySize l) 0
+pageIn list l p = entriesIn list l p ++ replicate (pageSize - placedOn l p * entrySize l) 0
 
 -- The key of the last entry on page p.
 unfoldable pub lastKeyIn : List ℕ → Layout → ℕ → List ℕ
-lastKeyIn list l p = partAt list (listAt l p (onPage l p - 1)) (l .«key_length»)
+lastKeyIn list l p = partAt list (listAt l p (placedOn l p - 1)) (l .«key_length»)
 
 -- The first eight bytes of a page's hash.
 unfoldable pub pageHashIn : List ℕ → Layout → ℕ → List ℕ

@@ -18,15 +18,15 @@ ghost use Rattle.index_file.specs.File as spec;
 fn list_at(l: Layout, page: Page, slot: Slot) -> usize
     ensures { λ r. ⌜ r ≡ spec.listAt l (page .0) (slot .0) ⌝ }
 {
-    l.entry_number(page, slot) * l.entry_size()
+    l.placed_number(page, slot) * l.entry_size()
 }
 
 // The bytes of a page's entries.
 fn entries_size(l: Layout, page: Page) -> usize
-    ensures { λ r. ⌜ r ≡ layout.onPage l (page .0) * layout.entrySize l ⌝ }
+    ensures { λ r. ⌜ r ≡ layout.placedOn l (page .0) * layout.entrySize l ⌝ }
     ensures { λ r. ⌜ r ≤ layout.pageSize ⌝ }
 {
-    l.on_page(page) * l.entry_size()
+    l.placed_on(page) * l.entry_size()
 }
 
 // Each page: its entries, and zeros after them.
@@ -58,7 +58,7 @@ pub fn write_last_keys(list: &[u8], l: Layout, output: &mut [u8])
     let mut to = l.last_key_at(Page(0));
     let mut p = 0;
     while p < pages {
-        let last = list_at(l, Page(p), l.last_slot(Page(p)));
+        let last = list_at(l, Page(p), l.last_placed(Page(p)));
         let key = part(list, last, bytes);
         copy(key, output, to);
         to += key.len();

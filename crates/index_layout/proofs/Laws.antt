@@ -1,5 +1,5 @@
 -- Laws of the layout.
-use mathlib.Core.Path.{_≡_}
+use mathlib.Core.Path.{_≡_, refl}
 use mathlib.Core.List.{List}
 use Prim.Native.Nat.{ℕ, suc, _+_, _-_, _*_, _/_, _^_, _≤_, _<_, min}
 use native.Mathlib.Nat.{le-trans, mul-le-mul, mul-le-mul-left, mul-le-mul-right, div-mul-le-self, div-add-mod', le-div-iff-mul-le, min-le-left, add-mul, mul-one, one-mul, suc-mul}
@@ -12,7 +12,7 @@ use Rattle.index_layout.specs.declared.Layout.{Layout}
 use Rattle.numbers.specs.Number.{bigAt}
 use Rattle.numbers.proofs.Laws.{bigAt-below}
 use Rattle.index_layout.specs.Entries.{locationAt, locationRead, archiveOf, offsetOf}
-use Rattle.index_layout.specs.Layout.{pageSize, entrySize, full, onPage, entryAt, keyAt}
+use Rattle.index_layout.specs.Layout.{pageSize, entrySize, full, placedOn, placedNumber, onPage, entryNumber, entryAt, keyAt}
 
 -- a product is at most that of the two bounds
 pub bound : (a b m n : ℕ) → a ≤ m → b ≤ n → a * b ≤ m * n
@@ -42,16 +42,40 @@ module _ (l : Layout) where
   unfolding full
   full-fits = div-mul-le-self 4096 (entrySize l)
 
-  pub on-page-full : (p : ℕ) → onPage l p ≤ full l
-  unfolding onPage
-  on-page-full p = min-le-left _ _
-
-  pub on-page-fits : (p : ℕ) → onPage l p * entrySize l ≤ 4096
-  on-page-fits p = le-trans (mul-le-mul-right (entrySize l) (on-page-full p)) full-fits
-
   -- at most 1,024 entries on a page, since an entry has four bytes or more
   pub full-most : full l ≤ 1024
   full-most = omega (arith, full-fits, mul-le-mul-left (full l) size-low)
+
+  -- ---- entries as they are placed
+  pub placed-full : (p : ℕ) → placedOn l p ≤ full l
+  unfolding placedOn
+  placed-full p = min-le-left _ _
+
+  pub placed-fits : (p : ℕ) → placedOn l p * entrySize l ≤ 4096
+  placed-fits p = le-trans (mul-le-mul-right (entrySize l) (placed-full p)) full-fits
+
+  pub placed-most : (p : ℕ) → placedOn l p ≤ 1024
+  placed-most p = le-trans (placed-full p) full-most
+
+  -- a page is full where the entries go on to the next
+  pub placed-all : (p : ℕ) → p * full l + full l ≤ l .entries → placedOn l p ≡ full l
+  unfolding placedOn
+  placed-all p h = omega arith
+
+  -- ---- entries as they are read: a file whose pages are full but the last has them where they are placed
+  pub on-page-placed : (p : ℕ) → onPage l p ≡ placedOn l p
+  unfolding onPage
+  on-page-placed p = refl
+
+  pub entry-number-placed : (p i : ℕ) → entryNumber l p i ≡ placedNumber l p i
+  unfolding entryNumber
+  entry-number-placed p i = refl
+
+  pub on-page-full : (p : ℕ) → onPage l p ≤ full l
+  on-page-full p = rw (on-page-placed p) (placed-full p)
+
+  pub on-page-fits : (p : ℕ) → onPage l p * entrySize l ≤ 4096
+  on-page-fits p = le-trans (mul-le-mul-right (entrySize l) (on-page-full p)) full-fits
 
   pub on-page-most : (p : ℕ) → onPage l p ≤ 1024
   on-page-most p = le-trans (on-page-full p) full-most

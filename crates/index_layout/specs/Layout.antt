@@ -113,13 +113,21 @@ full l = pageSize / entrySize l
 unfoldable pub pagesFor : ℕ → ℕ → ℕ
 pagesFor n e = (n + e - 1) / e
 
--- How many entries page p has: every page but the last is full, the last holds the rest (rule I7).
-unfoldable pub onPage : Layout → ℕ → ℕ
-onPage l p = min (full l) (l .entries - p * full l)
+-- A list of entries is written with every page full but the last, which holds the rest: how many entries are placed on page p,
+-- and the number in the list of the one that is placed in its slot i (rule I7).
+unfoldable pub placedOn : Layout → ℕ → ℕ
+placedOn l p = min (full l) (l .entries - p * full l)
 
--- The number of an entry through the whole file (rule I7).
-abbrev pub entryNumber : Layout → ℕ → ℕ → ℕ
-entryNumber l p i = p * full l + i
+abbrev pub placedNumber : Layout → ℕ → ℕ → ℕ
+placedNumber l p i = p * full l + i
+
+-- How many entries page p of a file has, and the number of an entry through the whole file: a file that is read has its entries
+-- where they are placed (rule I7).
+unfoldable pub onPage : Layout → ℕ → ℕ
+onPage l p = placedOn l p
+
+unfoldable pub entryNumber : Layout → ℕ → ℕ → ℕ
+entryNumber l p i = placedNumber l p i
 
 -- Where page p stands (rule I7).
 abbrev pub pageAt : ℕ → ℕ

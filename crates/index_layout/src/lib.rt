@@ -87,6 +87,16 @@ pub fn page_at(page: Page) -> usize
     page.0 as usize * PAGE_SIZE
 }
 
+// The last slot of a page with this many entries; 0 where it has none.
+fn last_of(count: u32) -> Slot
+    ensures { λ r. ⌜ r .0 ≡ count - 1 ⌝ }
+{
+    if count == 0 {
+        return Slot(0);
+    }
+    Slot(count - 1)
+}
+
 impl Layout {
     // The layout of an index with these settings and this number of entries.
     pub fn new(version: u8, offset_width: u8, key_length: u8, entries: u32) -> Layout
@@ -126,9 +136,9 @@ impl Layout {
         PAGE_SIZE / self.entry_size()
     }
 
-    // How many entries a page has.
-    pub fn on_page(self, page: Page) -> usize
-        ensures { λ r. ⌜ r ≡ spec.onPage self (page .0) ⌝ }
+    // How many entries of a list are placed on a page.
+    pub fn placed_on(self, page: Page) -> usize
+        ensures { λ r. ⌜ r ≡ spec.placedOn self (page .0) ⌝ }
     {
         let full = self.full();
         let before = page.0 as usize * full;
@@ -142,22 +152,39 @@ impl Layout {
         full
     }
 
+    // The slot of the last entry that is placed on a page; 0 where none is.
+    pub fn last_placed(self, page: Page) -> Slot
+        ensures { λ r. ⌜ r .0 ≡ spec.placedOn self (page .0) - 1 ⌝ }
+    {
+        last_of(self.placed_on(page) as u32)
+    }
+
+    // The number in the list of the entry that is placed in a slot.
+    pub fn placed_number(self, page: Page, slot: Slot) -> usize
+        ensures { λ r. ⌜ r ≡ spec.placedNumber self (page .0) (slot .0) ⌝ }
+    {
+        page.0 as usize * self.full() + slot.0 as usize
+    }
+
+    // How many entries a page of a file has.
+    pub fn on_page(self, page: Page) -> usize
+        ensures { λ r. ⌜ r ≡ spec.onPage self (page .0) ⌝ }
+    {
+        self.placed_on(page)
+    }
+
     // The slot of a page's last entry; 0 where it has none.
     pub fn last_slot(self, page: Page) -> Slot
         ensures { λ r. ⌜ r .0 ≡ spec.onPage self (page .0) - 1 ⌝ }
     {
-        let count = self.on_page(page) as u32;
-        if count == 0 {
-            return Slot(0);
-        }
-        Slot(count - 1)
+        last_of(self.on_page(page) as u32)
     }
 
     // The number of an entry through the whole file.
     pub fn entry_number(self, page: Page, slot: Slot) -> usize
         ensures { λ r. ⌜ r ≡ spec.entryNumber self (page .0) (slot .0) ⌝ }
     {
-        page.0 as usize * self.full() + slot.0 as usize
+        self.placed_number(page, slot)
     }
 
     // Where a slot of a page stands.

@@ -17,10 +17,10 @@ use Rattle.refusal.specs.Check.{silent, first}
 use Rattle.refusal.specs.Number.{index-short, footer-field, index-length}
 use Rattle.refusal.proofs.Laws.{silent-test, first-left, first-right}
 use Rattle.index_layout.specs.declared.Layout.{Layout}
-use Rattle.index_layout.specs.Layout.{pageSize, footerSize, hashLength, versionAt, reservedAt, pageKbAt, offsetWidthAt, sizeWidthAt, keyLengthAt, leastVersion, mostVersion, pageKb, leastOffsetWidth, mostOffsetWidth, sizeWidth, leastKeyLength, mostKeyLength, mostEntries, countCheck, footer, entryCount, keyLength, offsetWidth, entrySize, full, pagesFor, onPage, pageAt, indexLength, layoutFrom, layoutOf}
+use Rattle.index_layout.specs.Layout.{pageSize, footerSize, hashLength, versionAt, reservedAt, pageKbAt, offsetWidthAt, sizeWidthAt, keyLengthAt, leastVersion, mostVersion, pageKb, leastOffsetWidth, mostOffsetWidth, sizeWidth, leastKeyLength, mostKeyLength, mostEntries, countCheck, footer, entryCount, keyLength, offsetWidth, entrySize, full, pagesFor, placedOn, onPage, pageAt, indexLength, layoutFrom, layoutOf}
 use Rattle.index_open.specs.Open.{shortCheck, fieldCheck, fieldsCheckWith, fieldsCheck, footerHashCheck, footerCheck, footerReading, lengthCheck, opening}
 use Rattle.index_layout.specs.Entries.{entriesOf, entriesBy, listOf}
-use Rattle.index_layout.proofs.Laws.{on-page-fits, per-page}
+use Rattle.index_layout.proofs.Laws.{on-page-placed, on-page-fits, per-page}
 use Rattle.index_open.proofs.Laws.{count-within}
 
 pub record Opened (s : List ℕ) : Type 0 where
@@ -100,10 +100,14 @@ module _ (s : List ℕ) (o : Opened s) where
   pub entries-held : layoutOf s .entries ≤ layoutOf s .pages * full (layoutOf s)
   entries-held = subst (λ n. layoutOf s .entries ≤ n * full (layoutOf s)) (sym pages-are) (pages-hold (layoutOf s .entries) (full (layoutOf s)) full-positive)
 
+  -- entries are left for every page
+  pub entries-left : (p : ℕ) → p < layoutOf s .pages → p * full (layoutOf s) < layoutOf s .entries
+  entries-left p h = pages-tight (layoutOf s .entries) (full (layoutOf s)) p full-positive (rw pages-are at h)
+
   -- every page has an entry
   pub on-page-some : (p : ℕ) → p < layoutOf s .pages → 1 ≤ onPage (layoutOf s) p
-  unfolding onPage
-  on-page-some p h = omega (arith, full-positive, pages-tight (layoutOf s .entries) (full (layoutOf s)) p full-positive (rw pages-are at h))
+  unfolding placedOn
+  on-page-some p h = rw (on-page-placed (layoutOf s) p) (omega (arith, full-positive, entries-left p h))
 
   pub pages-inside : pageAt (layoutOf s .pages) ≤ length s
   unfolding indexLength
@@ -121,7 +125,7 @@ module _ (s : List ℕ) (o : Opened s) where
   -- the list from page p on has the entries that are left
   list-left : (p m : ℕ) → p + m ≡ layoutOf s .pages
       → length (partsFrom (entriesOf s (layoutOf s)) p m) ≡ (layoutOf s .entries - p * full (layoutOf s)) * entrySize (layoutOf s)
-  unfolding partsFrom onPage
+  unfolding partsFrom placedOn
   list-left p zero h =
       let none : layoutOf s .entries - p * full (layoutOf s) ≡ 0 = rw (sym (add-zero p) ∙ h) (omega (arith, entries-held)) in
       rw (none, zero-mul (entrySize (layoutOf s)))
@@ -132,7 +136,7 @@ module _ (s : List ℕ) (o : Opened s) where
       length-append (entriesOf s l p) (partsFrom (entriesOf s l) (suc p) m)
       ∙ ap₂ (λ a b. a + b) (entries-length p inside) (list-left (suc p) m next)
       ∙ sym (add-mul (onPage l p) (l .entries - suc p * full l) (entrySize l))
-      ∙ ap (λ n. n * entrySize l) (page-rest (l .entries) (full l) p)
+      ∙ ap (λ n. n * entrySize l) (ap (λ n. n + (l .entries - suc p * full l)) (on-page-placed l p) ∙ page-rest (l .entries) (full l) p)
 
   pub list-length : length (listOf s) ≡ layoutOf s .entries * entrySize (layoutOf s)
   unfolding entriesBy

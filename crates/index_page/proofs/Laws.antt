@@ -3,6 +3,7 @@ use mathlib.Core.Path.{_≡_, refl, sym, ap, _∙_}
 use mathlib.Core.Bool.{cond}
 use mathlib.Core.List.{List, []}
 use Prim.Native.Nat.{ℕ, _≤_, _<_, min}
+use native.Mathlib.Nat.{mul-le-mul-left}
 use native.Mathlib.Decide.{decLt}
 use native.Mathlib.Omega.{arith}
 use borrow.Author.Tests.{lt-ltb, le-ltb}
@@ -10,9 +11,9 @@ use Rattle.refusal.specs.Check.{Check, silent, refused}
 use Rattle.refusal.specs.Outcome.{answered, absent, after}
 use Rattle.refusal.proofs.Laws.{after-quiet, after-said}
 use Rattle.index_layout.specs.declared.Layout.{Layout}
-use Rattle.index_layout.specs.Layout.{onPage, layoutFrom, layoutOf}
+use Rattle.index_layout.specs.Layout.{layoutFrom, layoutOf}
 use Rattle.index_open.specs.Open.{opening}
-use Rattle.index_open.proofs.Opened.{opened, full-positive, on-page-some}
+use Rattle.index_open.proofs.Opened.{opened, full-positive, entries-left}
 use Rattle.index_page.specs.Page.{valuesOf, pageIn, pageOutcome, greatestPage, pageOfNumber, PageOfNumber}
 
 -- the page against the count of pages
@@ -30,13 +31,13 @@ module _ (s : List ℕ) (l : Layout) (p : ℕ) (quiet : opening s ≡ silent) (e
 
 -- no index has the greatest page
 pages-few : (s : List ℕ) → opening s ≡ silent → layoutOf s .pages ≤ greatestPage
-unfolding onPage layoutFrom
+unfolding layoutFrom
 pages-few s quiet = go (decLt greatestPage (layoutOf s .pages))
   where
     go : Dec (greatestPage < layoutOf s .pages) → layoutOf s .pages ≤ greatestPage
     go (yes more) =
         let o = opened s quiet in
-        absurd (omega (arith, on-page-some s o greatestPage more, full-positive s o, o .count))
+        absurd (omega (arith, entries-left s o greatestPage more, mul-le-mul-left greatestPage (full-positive s o), o .count))
     go (no most) = omega arith
 
 -- a number above it is absent, as that page is

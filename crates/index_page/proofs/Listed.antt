@@ -1,7 +1,7 @@
 -- The entries of a page in the list of the index.
 use mathlib.Core.Path.{_≡_, sym, ap, ap₂, _∙_}
 use mathlib.Core.List.{List, [], append-nil}
-use Prim.Native.Nat.{ℕ, _+_, _-_, _*_, _≤_, _<_, min}
+use Prim.Native.Nat.{ℕ, _+_, _*_, _≤_, _<_}
 use native.Mathlib.Nat.{add-zero, mul-le-mul-right, add-mul, mul-assoc, one-mul}
 use native.Mathlib.Numerals.{add-one-le}
 use native.Mathlib.Omega.{arith}
@@ -12,7 +12,8 @@ use Rattle.parts.proofs.Parts.{parts-at}
 use Rattle.index_layout.specs.declared.Layout.{Layout}
 use Rattle.index_layout.specs.Layout.{entrySize, full, onPage, pageAt, entryAt, layoutOf}
 use Rattle.index_layout.specs.Entries.{entriesOf, entriesBy, listOf}
-use Rattle.index_open.proofs.Opened.{Opened, opened, entries-length}
+use Rattle.index_layout.proofs.Laws.{placed-all, on-page-placed, entry-number-placed}
+use Rattle.index_open.proofs.Opened.{Opened, opened, entries-left, entries-length}
 use Rattle.index_page.specs.Page.{firstEntry, EntriesOfPage}
 
 module _ (s : List ℕ) (o : Opened s) (p : ℕ) (h : p < layoutOf s .pages) (i : ℕ) (g : i < onPage (layoutOf s) p) where
@@ -21,10 +22,10 @@ module _ (s : List ℕ) (o : Opened s) (p : ℕ) (h : p < layoutOf s .pages) (i 
 
   -- the pages before it are full
   before-full : (j : ℕ) → j < p → length (entriesOf s l j) ≡ full l * entrySize l
-  unfolding onPage
   before-full j b =
       let room : (j + 1) * full l ≤ p * full l = mul-le-mul-right (full l) (add-one-le b) in
-      let all : min (full l) (l .entries - j * full l) ≡ full l = omega (arith, g, room, add-mul j 1 (full l), one-mul (full l)) in
+      let all : onPage l j ≡ full l =
+      on-page-placed l j ∙ placed-all l j (omega (arith, entries-left s o p h, room, add-mul j 1 (full l), one-mul (full l))) in
       entries-length s o j (omega arith) ∙ ap (λ n. n * entrySize l) all
 
   inside : i * entrySize l + entrySize l ≤ onPage l p * entrySize l
@@ -40,7 +41,7 @@ module _ (s : List ℕ) (o : Opened s) (p : ℕ) (h : p < layoutOf s .pages) (i 
 
   place-is : (firstEntry l p + i) * entrySize l ≡ p * (full l * entrySize l) + i * entrySize l
   place-is =
-      ap (λ n. (n + i) * entrySize l) (add-zero (p * full l))
+      ap (λ n. (n + i) * entrySize l) (entry-number-placed l p 0 ∙ add-zero (p * full l))
       ∙ add-mul (p * full l) i (entrySize l)
       ∙ ap (λ n. n + i * entrySize l) (mul-assoc p (full l) (entrySize l))
 

@@ -21,9 +21,9 @@ use Rattle.refusal.specs.Number as number
 use Rattle.refusal.specs.Number.{index-page-hash, index-padding, index-order, last-key, footer-hash}
 use Rattle.refusal.proofs.Laws.{silent-test, quiet, skip, first-left, first-right, from-each, from-silent}
 use Rattle.index_layout.specs.declared.Layout.{Layout}
-use Rattle.index_layout.specs.Layout.{pageSize, footerSize, hashLength, versionAt, reservedAt, pageKbAt, offsetWidthAt, sizeWidthAt, keyLengthAt, hashLengthAt, entryCountAt, footerHashAt, leastVersion, mostVersion, pageKb, leastOffsetWidth, mostOffsetWidth, sizeWidth, leastKeyLength, mostKeyLength, mostEntries, footer, version, footerHash, entrySize, full, onPage, entryNumber, pageAt, entryAt, lastKeyAt, pageHashAt, indexLength, layoutWith, layoutFrom, layoutOf, pageOf}
+use Rattle.index_layout.specs.Layout.{pageSize, footerSize, hashLength, versionAt, reservedAt, pageKbAt, offsetWidthAt, sizeWidthAt, keyLengthAt, hashLengthAt, entryCountAt, footerHashAt, leastVersion, mostVersion, pageKb, leastOffsetWidth, mostOffsetWidth, sizeWidth, leastKeyLength, mostKeyLength, mostEntries, footer, version, footerHash, entrySize, full, placedOn, placedNumber, onPage, entryNumber, pageAt, entryAt, lastKeyAt, pageHashAt, indexLength, layoutWith, layoutFrom, layoutOf, pageOf}
 use Rattle.index_layout.specs.Entries.{entriesOf, entriesBy, listOf}
-use Rattle.index_layout.proofs.Laws.{on-page-fits}
+use Rattle.index_layout.proofs.Laws.{on-page-placed, on-page-fits}
 use Rattle.index_open.specs.Open.{fieldCheck, fieldsCheckWith, fieldsCheck, hashedFooter, footerHashCheck, footerCheck, footerReading, shortCheck, lengthCheck, opening}
 use Rattle.index_open.proofs.Opened.{Opened, opened, field-range, full-positive, entries-held, list-length, entries-length, page-inside}
 use Rattle.index.specs.Check.{pageHashCheck, paddingCheck, orderCheck, lastKeyCheck, pageCheck, pagesCheck, fullCheck}
@@ -62,10 +62,10 @@ module _ (s : List ℕ) (o : Opened s) where
   unfolding entriesBy
   entries-again p k =
       let at : listAt l p 0 ≡ p * (full l * entrySize l) = ap (λ n. n * entrySize l) (add-zero (p * full l)) ∙ mul-assoc p (full l) (entrySize l) in
-      sym (ap₂ (λ m n. partAt list m n) at (sym (entries-length s o p k))
+      sym (ap₂ (λ m n. partAt list m n) at (ap (λ n. n * entrySize l) (sym (on-page-placed l p)) ∙ sym (entries-length s o p k))
       ∙ ap (λ t. partAt t (p * (full l * entrySize l)) (length (entriesOf s l p))) (sym (append-nil list))
       ∙ parts-at (entriesOf s l) (full l * entrySize l) (l .pages) [] p k
-      (λ j m. entries-length s o j (omega arith) ∙ ap (λ n. n * entrySize l) (page-full list l held-again j (omega arith))))
+      (λ j m. entries-length s o j (omega arith) ∙ ap (λ n. n * entrySize l) (on-page-placed l j ∙ page-full list l held-again j (omega arith))))
 
   pub same-again : Same s list l
   same-again = record { held = held-again; entries = entries-again }
@@ -107,25 +107,25 @@ module _ (s : List ℕ) (o : Opened s) where
       unfolding pageIn entryAt
       page-again =
           let whole : onPage l p * entrySize l + (pageSize - onPage l p * entrySize l) ≡ pageSize = omega (arith, on-page-fits l p) in
-          ap₂ _++_ (sym (entries-again p k)) (sym padding-again)
+          ap₂ _++_ (sym (entries-again p k)) (ap (λ n. replicate (pageSize - n * entrySize l) 0) (sym (on-page-placed l p)) ∙ sym padding-again)
           ∙ sym (part-add s (pageAt p) (onPage l p * entrySize l) (pageSize - onPage l p * entrySize l)) ∙ ap (partAt s (pageAt p)) whole
 
     -- the keys of the list rise
-    at-slot : (p i : ℕ) → p < l .pages → i < onPage l p → 1 ≤ entryNumber l p i
-        → isBelow (compared (keyOf list l (entryNumber l p i - 1)) (keyOf list l (entryNumber l p i))) ≡ true
+    at-slot : (p i : ℕ) → p < l .pages → i < onPage l p → 1 ≤ placedNumber l p i
+        → isBelow (compared (keyOf list l (placedNumber l p i - 1)) (keyOf list l (placedNumber l p i))) ≡ true
     unfolding orderCheck
     at-slot p i k n m =
         not-false _ (sym (slot-order s list l same-again p i k n m) ∙ silent-test _ index-order (entryNumber l p i) (slot-silent p k i n))
 
     pub rises-again : (g : ℕ) → 1 ≤ g → g < l .entries → isBelow (compared (keyOf list l (g - 1)) (keyOf list l g)) ≡ true
-    unfolding onPage
+    unfolding placedOn
     rises-again g h k =
         let low : 1 ≤ full l = full-positive s o in
         let slot : g / full l * full l + g % full l ≡ g = div-add-mod' g (full l) in
         let below : g % full l < full l = mod-lt g low in
         let page : g / full l < l .pages = fewer (g / full l) (l .pages) (full l) (omega (arith, slot, k, entries-held s o)) in
         subst (λ n. isBelow (compared (keyOf list l (n - 1)) (keyOf list l n)) ≡ true) slot
-        (at-slot (g / full l) (g % full l) page (omega (arith, below, slot, k)) (omega (arith, slot, h)))
+        (at-slot (g / full l) (g % full l) page (rw (on-page-placed l (g / full l)) (omega (arith, below, slot, k))) (omega (arith, slot, h)))
 
     -- the parts before the footer
     pages-again : pages list l ≡ partAt s 0 (lastKeyAt l 0)

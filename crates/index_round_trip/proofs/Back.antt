@@ -21,9 +21,9 @@ use Rattle.refusal.specs.Check.{silent}
 use Rattle.refusal.specs.Number.{index-short, footer-field, footer-hash, entry-count, index-length, index-page-hash, index-padding, index-order, last-key}
 use Rattle.refusal.proofs.Laws.{quiet, skip, from-silent}
 use Rattle.index_layout.specs.declared.Layout.{Layout}
-use Rattle.index_layout.specs.Layout.{pageSize, footerSize, hashLength, versionAt, reservedAt, pageKbAt, offsetWidthAt, sizeWidthAt, keyLengthAt, hashLengthAt, footerHashAt, leastVersion, mostVersion, pageKb, leastOffsetWidth, mostOffsetWidth, sizeWidth, leastKeyLength, mostKeyLength, mostEntries, footer, entryCount, footerHash, entrySize, full, onPage, entryNumber, pageAt, entryAt, lastKeyAt, pageHashAt, indexLength, layoutWith, layoutFrom, layoutOf, pageOf}
+use Rattle.index_layout.specs.Layout.{pageSize, footerSize, hashLength, versionAt, reservedAt, pageKbAt, offsetWidthAt, sizeWidthAt, keyLengthAt, hashLengthAt, footerHashAt, leastVersion, mostVersion, pageKb, leastOffsetWidth, mostOffsetWidth, sizeWidth, leastKeyLength, mostKeyLength, mostEntries, footer, entryCount, footerHash, entrySize, full, placedOn, placedNumber, onPage, entryNumber, pageAt, entryAt, lastKeyAt, pageHashAt, indexLength, layoutWith, layoutFrom, layoutOf, pageOf}
 use Rattle.index_layout.specs.Entries.{entriesOf, entriesBy, listOf}
-use Rattle.index_layout.proofs.Laws.{on-page-fits, on-page-full}
+use Rattle.index_layout.proofs.Laws.{placed-full, placed-fits, on-page-placed}
 use Rattle.index_open.specs.Open.{fieldCheck, fieldsCheckWith, fieldsCheck, footerHashCheck, footerCheck, opening}
 use Rattle.index_open.proofs.Opened.{pages-hold}
 use Rattle.index.specs.Check.{pageHashCheck, paddingCheck, notAbove, orderCheck, lastKeyCheck, pageCheck, pagesCheck, fullCheck}
@@ -31,7 +31,7 @@ use Rattle.index_footer.specs.Footer.{fields, hashedFields, footerWith}
 use Rattle.index_footer.proofs.Laws.{keys-begin, first-eight-length, footer-length}
 use Rattle.index_file.specs.File.{listAt, entriesIn, pageIn, lastKeyIn, pageHashIn, pages, lastKeys, pageHashes, fileOf}
 use Rattle.index_file.specs.Held.{Held}
-use Rattle.index_file.proofs.Parts.{some-on-page, entries-length, last-key-length, pages-length, last-keys-length, file-length, page-there}
+use Rattle.index_file.proofs.Parts.{some-placed, entries-length, last-key-length, pages-length, last-keys-length, file-length, page-there}
 use Rattle.index_writer.specs.declared.Settings.{Settings}
 use Rattle.index_writer.specs.Write.{listEntrySize, layoutFor, keyIn, writeCheck}
 use Rattle.index_writer.proofs.Passed.{Passed, passed, held}
@@ -136,20 +136,20 @@ module _ (list : List ℕ) (l : Layout) (h : Held list l) where
   pub entries-are : (p : ℕ) → p < l .pages → entriesOf file l p ≡ entriesIn list l p
   unfolding pageIn
   entries-are p k =
-      let size : length (entriesIn list l p) ≡ onPage l p * entrySize l = entries-length list l h p k in
-      ap (λ n. partAt file n (onPage l p * entrySize l)) (sym (add-zero (pageAt p)))
-      ∙ sym (part-of-part file (pageAt p) pageSize 0 (onPage l p * entrySize l) (omega (arith, on-page-fits l p)))
-      ∙ ap (λ s. partAt s 0 (onPage l p * entrySize l)) (page-is p k)
-      ∙ take-at (entriesIn list l p) (replicate (pageSize - onPage l p * entrySize l) 0) (onPage l p * entrySize l) size
+      let size : length (entriesIn list l p) ≡ placedOn l p * entrySize l = entries-length list l h p k in
+      ap₂ (λ m n. partAt file n (m * entrySize l)) (on-page-placed l p) (sym (add-zero (pageAt p)))
+      ∙ sym (part-of-part file (pageAt p) pageSize 0 (placedOn l p * entrySize l) (omega (arith, placed-fits l p)))
+      ∙ ap (λ s. partAt s 0 (placedOn l p * entrySize l)) (page-is p k)
+      ∙ take-at (entriesIn list l p) (replicate (pageSize - placedOn l p * entrySize l) 0) (placedOn l p * entrySize l) size
 
-  padding-is : (p : ℕ) → p < l .pages → partAt file (entryAt l p (onPage l p)) (pageSize - onPage l p * entrySize l) ≡ replicate (pageSize - onPage l p * entrySize l) 0
+  padding-is : (p : ℕ) → p < l .pages → partAt file (entryAt l p (placedOn l p)) (pageSize - placedOn l p * entrySize l) ≡ replicate (pageSize - placedOn l p * entrySize l) 0
   unfolding pageIn entryAt
   padding-is p k =
-      let size : length (entriesIn list l p) ≡ onPage l p * entrySize l = entries-length list l h p k in
-      sym (part-of-part file (pageAt p) pageSize (onPage l p * entrySize l) (pageSize - onPage l p * entrySize l) (omega (arith, on-page-fits l p)))
-      ∙ ap (λ s. partAt s (onPage l p * entrySize l) (pageSize - onPage l p * entrySize l)) (page-is p k)
-      ∙ ap (take (pageSize - onPage l p * entrySize l)) (drop-at (entriesIn list l p) (replicate (pageSize - onPage l p * entrySize l) 0) (onPage l p * entrySize l) size)
-      ∙ take-all (pageSize - onPage l p * entrySize l) (replicate (pageSize - onPage l p * entrySize l) 0) (omega (arith, length-replicate {A = ℕ} (pageSize - onPage l p * entrySize l) 0))
+      let size : length (entriesIn list l p) ≡ placedOn l p * entrySize l = entries-length list l h p k in
+      sym (part-of-part file (pageAt p) pageSize (placedOn l p * entrySize l) (pageSize - placedOn l p * entrySize l) (omega (arith, placed-fits l p)))
+      ∙ ap (λ s. partAt s (placedOn l p * entrySize l) (pageSize - placedOn l p * entrySize l)) (page-is p k)
+      ∙ ap (take (pageSize - placedOn l p * entrySize l)) (drop-at (entriesIn list l p) (replicate (pageSize - placedOn l p * entrySize l) 0) (placedOn l p * entrySize l) size)
+      ∙ take-all (pageSize - placedOn l p * entrySize l) (replicate (pageSize - placedOn l p * entrySize l) 0) (omega (arith, length-replicate {A = ℕ} (pageSize - placedOn l p * entrySize l) 0))
 
   pub same : Same file list l
   same = record { held = h; entries = entries-are }
@@ -159,21 +159,21 @@ module _ (list : List ℕ) (l : Layout) (h : Held list l) where
   list-begins p = ap (λ n. n * entrySize l) (add-zero (p * full l)) ∙ mul-assoc p (full l) (entrySize l)
 
   whole-page : (p : ℕ) → p < l .pages → entriesIn list l p ≡ partAt list (p * (full l * entrySize l)) (full l * entrySize l)
-  unfolding onPage
-  whole-page p k = ap (λ n. partAt list n (onPage l p * entrySize l)) (list-begins p) ∙ go (decLt (l .entries - p * full l) (full l))
+  unfolding placedOn
+  whole-page p k = ap (λ n. partAt list n (placedOn l p * entrySize l)) (list-begins p) ∙ go (decLt (l .entries - p * full l) (full l))
     where
-      go : Dec (l .entries - p * full l < full l) → partAt list (p * (full l * entrySize l)) (onPage l p * entrySize l) ≡ partAt list (p * (full l * entrySize l)) (full l * entrySize l)
+      go : Dec (l .entries - p * full l < full l) → partAt list (p * (full l * entrySize l)) (placedOn l p * entrySize l) ≡ partAt list (p * (full l * entrySize l)) (full l * entrySize l)
       go (no more) =
-          let every : onPage l p ≡ full l = omega arith in
+          let every : placedOn l p ≡ full l = omega arith in
           ap (λ m. partAt list (p * (full l * entrySize l)) (m * entrySize l)) every
       go (yes less) =
-          let rest : onPage l p ≡ l .entries - p * full l = omega arith in
-          let count : l .entries ≡ p * full l + onPage l p = omega (arith, rest, some-on-page list l h p k .0, some-on-page list l h p k .1) in
-          let bytes : length (drop (p * (full l * entrySize l)) list) ≡ onPage l p * entrySize l =
+          let rest : placedOn l p ≡ l .entries - p * full l = omega arith in
+          let count : l .entries ≡ p * full l + placedOn l p = omega (arith, rest, some-placed list l h p k .0, some-placed list l h p k .1) in
+          let bytes : length (drop (p * (full l * entrySize l)) list) ≡ placedOn l p * entrySize l =
           length-drop (p * (full l * entrySize l)) list
-          ∙ omega (arith, h .bytes, ap (λ n. n * entrySize l) count, add-mul (p * full l) (onPage l p) (entrySize l), mul-assoc p (full l) (entrySize l)) in
-          take-all (onPage l p * entrySize l) (drop (p * (full l * entrySize l)) list) (omega (arith, bytes))
-          ∙ sym (take-all (full l * entrySize l) (drop (p * (full l * entrySize l)) list) (omega (arith, bytes, mul-le-mul-right (entrySize l) (on-page-full l p))))
+          ∙ omega (arith, h .bytes, ap (λ n. n * entrySize l) count, add-mul (p * full l) (placedOn l p) (entrySize l), mul-assoc p (full l) (entrySize l)) in
+          take-all (placedOn l p * entrySize l) (drop (p * (full l * entrySize l)) list) (omega (arith, bytes))
+          ∙ sym (take-all (full l * entrySize l) (drop (p * (full l * entrySize l)) list) (omega (arith, bytes, mul-le-mul-right (entrySize l) (placed-full l p))))
 
   list-within : length list ≤ l .pages * (full l * entrySize l)
   list-within =
@@ -190,7 +190,7 @@ module _ (list : List ℕ) (l : Layout) (h : Held list l) where
       ∙ take-all (l .pages * (full l * entrySize l)) list list-within
 
   -- the first entry has none before it
-  first-in-order : (p i : ℕ) → (0 < entryNumber l p i → ⊥) → notAbove file l p i ≡ false
+  first-in-order : (p i : ℕ) → (0 < placedNumber l p i → ⊥) → notAbove file l p i ≡ false
   unfolding notAbove
   first-in-order p i m =
       let page : p ≡ 0 = omega (arith, m, mul-le-mul-left p (h .holds), mul-one p) in
@@ -205,7 +205,10 @@ module _ (list : List ℕ) (l : Layout) (h : Held list l) where
 
     padding-quiet : paddingCheck file l p ≡ silent
     unfolding paddingCheck
-    padding-quiet = quiet index-padding p refl (ap not (ap allZero (padding-is p k) ∙ allZero-replicate (pageSize - onPage l p * entrySize l)))
+    padding-quiet =
+        quiet index-padding p refl
+        (ap (λ n. not (allZero (partAt file (entryAt l p n) (pageSize - n * entrySize l)))) (on-page-placed l p)
+        ∙ ap not (ap allZero (padding-is p k) ∙ allZero-replicate (pageSize - placedOn l p * entrySize l)))
 
     last-key-quiet : lastKeyCheck file l p ≡ silent
     unfolding lastKeyCheck
@@ -213,11 +216,11 @@ module _ (list : List ℕ) (l : Layout) (h : Held list l) where
 
     slot-quiet : (i : ℕ) → i < onPage l p → orderCheck file l p i ≡ silent
     unfolding orderCheck
-    slot-quiet i n = quiet index-order (entryNumber l p i) refl (in-order (decLt 0 (entryNumber l p i)))
+    slot-quiet i n = quiet index-order (entryNumber l p i) refl (in-order (decLt 0 (placedNumber l p i)))
       where
-        in-order : Dec (0 < entryNumber l p i) → notAbove file l p i ≡ false
+        in-order : Dec (0 < placedNumber l p i) → notAbove file l p i ≡ false
         in-order (yes m) =
-            slot-order file list l same p i k n m ∙ ap not (rises (entryNumber l p i) m (omega (arith, some-on-page list l h p k .0)))
+            slot-order file list l same p i k n m ∙ ap not (rises (placedNumber l p i) m (omega (arith, on-page-placed l p, some-placed list l h p k .0)))
         in-order (no m) = first-in-order p i m
 
     page-quiet : pageCheck file l p ≡ silent

@@ -6,7 +6,8 @@ use native.Mathlib.Omega.{arith}
 use borrow.Author.Needs.{needs}
 use Rattle.refusal.specs.Check.{silent}
 use Rattle.refusal.proofs.Laws.{after-said}
-use Rattle.index_layout.specs.Layout.{onPage, layoutFrom, layoutOf}
+use Rattle.index_layout.specs.Layout.{layoutFrom, layoutOf}
+use Rattle.index_layout.proofs.Laws.{on-page-most}
 use Rattle.index_open.specs.Open.{opening}
 use Rattle.index_open.proofs.Laws.{passed-index, refused-index}
 use Rattle.index_open.proofs.Opened.{opened}
@@ -23,6 +24,9 @@ known : (c : tie.After-l) → (opening (index (c .before .before)) ≡ silent) �
 known c =
     let o = c .before .before in
     passed-index (opening (index o)) _ (layoutOf (index o)) (o .open .result) (o .open .ensures) (c .l .given .1)
+
+abbrev start : tie.After-l → tie.Start
+start c = c .before .before .before .before
 
 -- where the layout is known, from the place after the page's test
 abbrev layout-known : tie.Else1 → tie.After-l
@@ -42,8 +46,9 @@ returns-2 c =
     past-slots _ _ _ _ (known l .0) (known l .1) (page .if1 .left) (rw (c .before .on-page .ensures) at (c .if2 .taken))
 
 cast-slot : tie.Need-cast-t11-2
-unfolding onPage
-cast-slot c = omega (arith, c .before .on-page .ensures)
+cast-slot c =
+    let l = layout-known (c .before .before) in
+    omega (arith, c .before .on-page .ensures, on-page-most (l .l .given .0 .0) (start l .args .page))
 
 found-requires : tie.Need-found-requires
 unfolding layoutFrom

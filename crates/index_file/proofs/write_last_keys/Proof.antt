@@ -32,8 +32,8 @@ loop-holds : tie.Need-loop-holds Inv-loop μ-loop
 unfolding partsFrom
 loop-holds c = (search needs, omega (arith, c .last-key-at .ensures, keys-begin (c .before .before .before .before .args .l)), omega arith, sym (add-zero _), sym (overlay-none _ _))
 
-last-slot-requires : tie.Need-last-slot-requires Inv-loop μ-loop
-last-slot-requires c κs = search needs
+last-placed-requires : tie.Need-last-placed-requires Inv-loop μ-loop
+last-placed-requires c κs = search needs
 
 list-at-requires : tie.Need-list-at-requires Inv-loop μ-loop
 list-at-requires c κs = search needs
@@ -61,7 +61,7 @@ loop-again c =
     let a = c .before .before .before .before .before .before .before .before .before .before .before .before .before .args in
     let l = c .before .before .before .before .before .before .before .before .loop in
     let short : length (c .before .before .before .before .part .result .now) ≤ 255 = omega (arith, ap length (c .before .before .before .before .part .ensures .0), partAt-length (a .list .now) (c .before .before .before .before .before .list-at .result) (a .l .«key_length»)) in
-    let key = c .before .before .before .before .part .ensures .0 ∙ ap (λ n. partAt (a .list .now) n (a .l .«key_length»)) (c .before .before .before .before .before .list-at .ensures ∙ ap (listAt (a .l) (l .p)) (c .before .before .before .before .before .before .last-slot .ensures)) in
+    let key = c .before .before .before .before .part .ensures .0 ∙ ap (λ n. partAt (a .list .now) n (a .l .«key_length»)) (c .before .before .before .before .before .list-at .ensures ∙ ap (listAt (a .l) (l .p)) (c .before .before .before .before .before .before .last-placed .ensures)) in
     let turn = part-laid (lastKeyIn (a .list .now) (a .l)) (l .p) _ (a .output .now) _ (c .before .before .before .before .before .before .before .before .before .last-key-at .result) _ key (l .inv .3) (l .inv .4) in
     (omega arith, omega arith, omega (arith, short), turn .0, c .before .before .copy .ensures ∙ turn .1)
 
@@ -84,7 +84,7 @@ write-last-keys-spec =
     cast-bytes
     last-key-at-requires
     loop-holds
-    last-slot-requires
+    last-placed-requires
     list-at-requires
     part-requires
     copy-requires

@@ -6,7 +6,7 @@ use native.Mathlib.Omega.{arith}
 use Rattle.refusal.specs.Check.{refused, firstFrom, checkOf}
 use Rattle.refusal.specs.Number.{index-order}
 use Rattle.refusal.proofs.Laws.{from-none}
-use Rattle.index_layout.specs.Layout.{full, onPage}
+use Rattle.index_layout.specs.Layout.{onPage}
 use Rattle.index.specs.Check.{orderCheck}
 use Rattle.index_layout.proofs.Laws.{bound}
 use Rattle.index.proofs.Laws.{order-said, order-quiet}

@@ -1,28 +1,14 @@
--- `index_layout::Layout::entry_number`: those of the full pages before, and the slot.
-use native.Mathlib.Omega.{arith}
-use Rattle.index_layout.proofs.Laws.{bound}
+-- `index_layout::Layout::entry_number`: a file has its entries where they are placed.
+use mathlib.Core.Path.{sym, _∙_}
+use Rattle.index_layout.proofs.Laws.{entry-number-placed}
 use borrow.Author.Needs.{needs}
 use Rattle.index_layout.proofs.Layout.entry_number.Statement.{statement}
 use Rattle.index_layout.proofs.Layout.entry_number.Tie as tie
 
-cast-result : tie.Need-cast-result
-cast-result c = search needs
-
-full-requires : tie.Need-full-requires
-full-requires c κs = search needs
-
-mul-result : tie.Need-mul-result
-mul-result c = omega (arith, bound (c .before .before .args .page .0) (c .full .result) 4294967295 1024 (omega arith) (omega arith))
-
-cast-result-2 : tie.Need-cast-result-2
-cast-result-2 c = search needs
-
-add-result : tie.Need-add-result
-add-result c = omega (arith, bound (c .before .before .before .args .page .0) (c .before .full .result) 4294967295 1024 (omega arith) (omega arith))
-
 returns : tie.Need-returns
-returns c = rw (c .before .full .ensures .0)
+returns c =
+    let a = c .before .args in
+    c .placed-number .ensures ∙ sym (entry-number-placed (a .self) (a .page .0) (a .slot .0))
 
 pub entry-number-spec : {M : Type 1} → statement M
-entry-number-spec =
-    tie.close (tie.spec cast-result full-requires mul-result cast-result-2 add-result returns)
+entry-number-spec = tie.close (tie.spec (λ c κs. search needs) returns)

@@ -1,52 +1,14 @@
--- `index::layout::Layout::on_page`: the rest of the entries, at most a full page.
-use native.Mathlib.Omega.{arith}
-use Rattle.index_layout.proofs.Laws.{bound}
-use Rattle.index_layout.specs.Layout.{full, onPage}
+-- `index_layout::Layout::on_page`: a file has its entries where they are placed.
+use mathlib.Core.Path.{sym, _∙_}
+use Rattle.index_layout.proofs.Laws.{on-page-placed}
 use borrow.Author.Needs.{needs}
 use Rattle.index_layout.proofs.Layout.on_page.Statement.{statement}
 use Rattle.index_layout.proofs.Layout.on_page.Tie as tie
 
-full-requires : tie.Need-full-requires
-full-requires c κs = search needs
-
-cast-before : tie.Need-cast-before
-cast-before c = search needs
-
-mul-before : tie.Need-mul-before
-mul-before c =
-    omega (arith, bound (c .before .before .args .page .0) (c .before .full .result) 4294967295 1024 (omega arith) (omega arith))
-
-cast-entries : tie.Need-cast-entries
-cast-entries c = search needs
-
 returns : tie.Need-returns
-unfolding onPage
-returns c = rw (← c .before .before .before .full .ensures .0) (omega arith)
-
-sub-if2 : tie.Need-sub-if2
-sub-if2 c = search needs
-
-sub-result : tie.Need-sub-result
-sub-result c = search needs
-
-returns-2 : tie.Need-returns-2
-unfolding onPage
-returns-2 c = rw (← c .before .before .before .before .full .ensures .0) (omega arith)
-
-returns-3 : tie.Need-returns-3
-unfolding onPage
-returns-3 c = rw (← c .before .before .before .before .full .ensures .0) (omega arith)
+returns c =
+    let a = c .before .args in
+    c .placed-on .ensures ∙ sym (on-page-placed (a .self) (a .page .0))
 
 pub on-page-spec : {M : Type 1} → statement M
-on-page-spec =
-    tie.close
-    (tie.spec
-    full-requires
-    cast-before
-    mul-before
-    cast-entries
-    returns
-    sub-if2
-    sub-result
-    returns-2
-    returns-3)
+on-page-spec = tie.close (tie.spec (λ c κs. search needs) returns)
