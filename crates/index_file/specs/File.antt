@@ -5,7 +5,7 @@ use lib.ListN.{take, replicate}
 use Rattle.parts.specs.Part.{partAt, partsFrom}
 use Rattle.md5.specs.Message.{md5}
 use Rattle.index_layout.specs.declared.Layout.{Layout}
-use Rattle.index_layout.specs.Layout.{pageSize, hashLength, entrySize, placedOn, placedNumber, pageOf}
+use Rattle.index_layout.specs.Layout.{pageSize, hashLength, entrySize, placedOn, placedNumber, pageOf, keyAt}
 use Rattle.index_footer.specs.Footer.{footerWith}
 
 -- Where slot i of page p stands in the list, which has nothing between its entries (rule I15).
@@ -38,7 +38,14 @@ lastKeys list l = partsFrom (lastKeyIn list l) 0 (l .pages)
 unfoldable pub pageHashes : List ℕ → Layout → List ℕ
 pageHashes list l = partsFrom (pageHashIn list l) 0 (l .pages)
 
--- The hashes of the pages that bytes begin with.
+-- The last keys of the pages that bytes begin with, each from the last slot that has an entry placed in it, and the hashes of
+-- these pages.
+abbrev pub lastKeyOf : List ℕ → Layout → ℕ → List ℕ
+lastKeyOf s l p = keyAt s l p (placedOn l p - 1)
+
+unfoldable pub lastKeysOf : List ℕ → Layout → List ℕ
+lastKeysOf s l = partsFrom (lastKeyOf s l) 0 (l .pages)
+
 unfoldable pub hashesOf : List ℕ → Layout → List ℕ
 hashesOf s l = partsFrom (λ p. take hashLength (md5 (pageOf s p))) 0 (l .pages)
 

@@ -10,9 +10,13 @@ use parts::copy;
 use parts::part;
 ghost use mathlib.Core.Path.{_≡_};
 ghost use Prim.Native.Nat.{_*_, _≤_};
-ghost use Rattle.parts.specs.Part.{overlay};
+ghost use lib.ListN.{length};
+ghost use Rattle.parts.specs.Part.{partAt, overlay};
 ghost use Rattle.index_layout.specs.Layout as layout;
 ghost use Rattle.index_file.specs.File as spec;
+
+// A key length is one byte.
+const LONGEST_KEY: usize = 255;
 
 // Where a slot of a page stands in the list.
 fn list_at(l: Layout, page: Page, slot: Slot) -> usize
@@ -49,19 +53,38 @@ pub fn write_pages(list: &[u8], l: Layout, output: &mut [u8])
     }
 }
 
-// The last key of each page, after the pages.
-pub fn write_last_keys(list: &[u8], l: Layout, output: &mut [u8])
-    ensures { λ _. ⌜ now (output .exit) ≡ overlay (now (output .entry)) (layout.lastKeyAt l 0) (spec.lastKeys (now (list .entry)) l) ⌝ }
+// A key by value, its bytes in front: the output that it is put into may be what it was read from.
+struct Key {
+    bytes: [u8; LONGEST_KEY],
+    count: usize,
+}
+
+// The key in the last placed slot of a page.
+fn last_key(output: &[u8], l: Layout, page: Page) -> Key
+    ensures { λ r. ⌜ partAt (r .bytes) 0 (r .count) ≡ spec.lastKeyOf (now (output .entry)) l (page .0) ⌝ }
+    ensures { λ r. ⌜ r .count ≡ length (spec.lastKeyOf (now (output .entry)) l (page .0)) ⌝ }
+{
+    let slot = l.last_placed(page);
+    let key = part(output, l.entry_at(page, slot), l.key_length as usize);
+    let mut bytes = [0u8; LONGEST_KEY];
+    copy(key, &mut bytes, 0);
+    let count = key.len();
+    Key { bytes, count }
+}
+
+// The last key of each page that the output begins with, after the pages.
+pub fn write_last_keys(l: Layout, output: &mut [u8])
+    ensures { λ _. ⌜ now (output .exit) ≡ overlay (now (output .entry)) (layout.lastKeyAt l 0) (spec.lastKeysOf (now (output .entry)) l) ⌝ }
 {
     let pages = l.pages;
-    let bytes = l.key_length as usize;
     let mut to = l.last_key_at(Page(0));
     let mut p = 0;
     while p < pages {
-        let last = list_at(l, Page(p), l.last_placed(Page(p)));
-        let key = part(list, last, bytes);
-        copy(key, output, to);
-        to += key.len();
+        let key = last_key(output, l, Page(p));
+        let bytes = key.bytes;
+        let count = key.count;
+        copy(part(&bytes, 0, count), output, to);
+        to += count;
         p += 1;
     }
 }

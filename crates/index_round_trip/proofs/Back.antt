@@ -8,7 +8,7 @@ use native.Mathlib.Decide.{decLt}
 use native.Mathlib.Omega.{arith}
 use lib.Dec.{ltb}
 use lib.ListN.{length, take, drop, replicate, length-append, length-drop, length-replicate}
-use lib.Seq.{take-at, drop-at, take-all}
+use lib.Seq.{drop-at, take-all}
 use borrow.Author.Tests.{le-ltb, eq-eqb}
 use Rattle.parts.specs.Part.{byteAt, partAt, allZero}
 use Rattle.parts.proofs.Laws.{part-of-part, sameBytes-of-eq, allZero-replicate}
@@ -31,7 +31,7 @@ use Rattle.index_footer.specs.Footer.{fields, hashedFields, footerWith}
 use Rattle.index_footer.proofs.Laws.{keys-begin, first-eight-length, footer-length}
 use Rattle.index_file.specs.File.{listAt, entriesIn, pageIn, lastKeyIn, pageHashIn, pages, lastKeys, pageHashes, fileOf}
 use Rattle.index_file.specs.Held.{Held}
-use Rattle.index_file.proofs.Parts.{some-placed, entries-length, last-key-length, pages-length, last-keys-length, file-length, page-there}
+use Rattle.index_file.proofs.Parts.{some-placed, entries-length, last-key-length, pages-length, last-keys-length, file-length, page-there, entries-there}
 use Rattle.index_writer.specs.declared.Settings.{Settings}
 use Rattle.index_writer.specs.Write.{listEntrySize, layoutFor, keyIn, writeCheck}
 use Rattle.index_writer.proofs.Passed.{Passed, passed, held}
@@ -134,22 +134,18 @@ module _ (list : List ℕ) (l : Layout) (h : Held list l) where
 
   -- a page's entries and its padding
   pub entries-are : (p : ℕ) → p < l .pages → entriesOf file l p ≡ entriesIn list l p
-  unfolding pageIn
-  entries-are p k =
-      let size : length (entriesIn list l p) ≡ placedOn l p * entrySize l = entries-length list l h p k in
-      ap₂ (λ m n. partAt file n (m * entrySize l)) (on-page-placed l p) (sym (add-zero (pageAt p)))
-      ∙ sym (part-of-part file (pageAt p) pageSize 0 (placedOn l p * entrySize l) (omega (arith, placed-fits l p)))
-      ∙ ap (λ s. partAt s 0 (placedOn l p * entrySize l)) (page-is p k)
-      ∙ take-at (entriesIn list l p) (replicate (pageSize - placedOn l p * entrySize l) 0) (placedOn l p * entrySize l) size
+  entries-are p k = ap (λ m. partAt file (pageAt p) (m * entrySize l)) (on-page-placed l p) ∙ entries-there list l h file p k (page-is p k)
 
-  padding-is : (p : ℕ) → p < l .pages → partAt file (entryAt l p (placedOn l p)) (pageSize - placedOn l p * entrySize l) ≡ replicate (pageSize - placedOn l p * entrySize l) 0
+  padding-is : (p : ℕ) → p < l .pages
+      → partAt file (entryAt l p (placedOn l p)) (pageSize - placedOn l p * entrySize l) ≡ replicate (pageSize - placedOn l p * entrySize l) 0
   unfolding pageIn entryAt
   padding-is p k =
-      let size : length (entriesIn list l p) ≡ placedOn l p * entrySize l = entries-length list l h p k in
-      sym (part-of-part file (pageAt p) pageSize (placedOn l p * entrySize l) (pageSize - placedOn l p * entrySize l) (omega (arith, placed-fits l p)))
-      ∙ ap (λ s. partAt s (placedOn l p * entrySize l) (pageSize - placedOn l p * entrySize l)) (page-is p k)
-      ∙ ap (take (pageSize - placedOn l p * entrySize l)) (drop-at (entriesIn list l p) (replicate (pageSize - placedOn l p * entrySize l) 0) (placedOn l p * entrySize l) size)
-      ∙ take-all (pageSize - placedOn l p * entrySize l) (replicate (pageSize - placedOn l p * entrySize l) 0) (omega (arith, length-replicate {A = ℕ} (pageSize - placedOn l p * entrySize l) 0))
+      let size = placedOn l p * entrySize l in
+      let rest = pageSize - size in
+      sym (part-of-part file (pageAt p) pageSize size rest (omega (arith, placed-fits l p)))
+      ∙ ap (λ s. partAt s size rest) (page-is p k)
+      ∙ ap (take rest) (drop-at (entriesIn list l p) (replicate rest 0) size (entries-length list l h p k))
+      ∙ take-all rest (replicate rest 0) (omega (arith, length-replicate {A = ℕ} rest 0))
 
   pub same : Same file list l
   same = record { held = h; entries = entries-are }

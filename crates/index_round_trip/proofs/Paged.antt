@@ -3,21 +3,20 @@ use mathlib.Core.Path.{_≡_, sym, ap, _∙_}
 use mathlib.Core.Bool.{false, not, _&&_, cond}
 use mathlib.Core.List.{List}
 use Prim.Native.Nat.{ℕ, zero, suc, _+_, _-_, _*_, _≤_, _<_}
-use native.Mathlib.Nat.{zero-mul, add-zero, add-mul, mul-le-mul-right, suc-mul}
+use native.Mathlib.Nat.{zero-mul, suc-mul}
 use native.Mathlib.Omega.{arith}
 use lib.Dec.{eqb}
 use borrow.Author.Tests.{ne-eqb}
 use Rattle.parts.specs.Part.{partAt}
-use Rattle.parts.proofs.Laws.{part-of-part}
 use Rattle.key.specs.Order.{compared, isBelow}
 use Rattle.index_layout.specs.declared.Layout.{Layout}
-use Rattle.index_layout.specs.Layout.{entrySize, full, placedOn, placedNumber, onPage, pageAt, entryAt, keyAt}
+use Rattle.index_layout.specs.Layout.{entrySize, full, placedNumber, onPage, pageAt, keyAt}
 use Rattle.index.specs.Check.{keyBefore, notAbove}
 use Rattle.index_layout.specs.Entries.{entriesOf}
-use Rattle.index_layout.proofs.Laws.{key-within, on-page-placed}
-use Rattle.index_file.specs.File.{listAt, entriesIn, lastKeyIn}
+use Rattle.index_layout.proofs.Laws.{on-page-placed}
+use Rattle.index_file.specs.File.{entriesIn, lastKeyIn}
 use Rattle.index_file.specs.Held.{Held}
-use Rattle.index_file.proofs.Parts.{some-placed, page-full}
+use Rattle.index_file.proofs.Parts.{placed-key, some-placed, page-full}
 
 -- The key of entry g of a list.
 abbrev pub keyOf : List ℕ → Layout → ℕ → List ℕ
@@ -29,17 +28,9 @@ pub record Same (s list : List ℕ) (l : Layout) : Type 0 where
 
 module _ (s list : List ℕ) (l : Layout) (e : Same s list l) where
   pub key-same : (p i : ℕ) → p < l .pages → i < onPage l p → keyAt s l p i ≡ keyOf list l (placedNumber l p i)
-  unfolding entryAt
   key-same p i k n =
-      let at : listAt l p 0 + i * entrySize l ≡ listAt l p i =
-      omega (arith, add-mul (p * full l) i (entrySize l), ap (λ n. n * entrySize l) (add-zero (p * full l))) in
-      sym (part-of-part s (pageAt p) (onPage l p * entrySize l) (i * entrySize l) (l .«key_length») (inside (onPage l p) n))
-      ∙ ap (λ r. partAt r (i * entrySize l) (l .«key_length»)) (e .entries p k)
-      ∙ part-of-part list (listAt l p 0) (placedOn l p * entrySize l) (i * entrySize l) (l .«key_length») (inside (placedOn l p) (rw (on-page-placed l p) at n))
-      ∙ ap (λ n. partAt list n (l .«key_length»)) at
-    where
-      inside : (m : ℕ) → i < m → i * entrySize l + l .«key_length» ≤ m * entrySize l
-      inside m h = omega (arith, mul-le-mul-right (entrySize l) h, suc-mul i (entrySize l), key-within l)
+      let placed = ap (λ m. partAt s (pageAt p) (m * entrySize l)) (sym (on-page-placed l p)) ∙ e .entries p k in
+      placed-key s list l p placed i (rw (on-page-placed l p) at n)
 
   pub last-same : (p : ℕ) → p < l .pages → keyAt s l p (onPage l p - 1) ≡ lastKeyIn list l p
   unfolding lastKeyIn

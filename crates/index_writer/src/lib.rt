@@ -94,7 +94,7 @@ fn write_file(list: &[u8], l: Layout, output: &mut [u8])
     ensures { λ _. ⌜ now (output .exit) ≡ filled silent (fileOf (now (list .entry)) l) (now (output .entry)) ⌝ }
 {
     write_pages(list, l, output);
-    write_last_keys(list, l, output);
+    write_last_keys(l, output);
     write_page_hashes(l, output);
     write_footer(l, output);
 }
