@@ -1,5 +1,5 @@
 -- `envelope::check_key`: the length of the key, the limit, the hash.
-use mathlib.Core.Path.{_≡_, refl, sym, ap, ap₂, _∙_}
+use mathlib.Core.Path.{_≡_, refl, sym, ap, _∙_}
 use borrow.Author.Tests.{eq-eqb, ne-eqb}
 use mathlib.Core.Bool.{not}
 use lib.ListN.{length}
@@ -9,93 +9,106 @@ use Rattle.refusal.specs.Number.{envelope-key}
 use Rattle.refusal.proofs.Laws.{said, quiet, first-said, skip, refused-is, passed-is}
 use Rattle.parts.specs.Part.{sameBytes}
 use Rattle.md5.specs.Message.{md5, limited}
+use Rattle.envelope_header.specs.Header.{headerOf}
 use Rattle.envelope.specs.Envelope.{keyed, limitCheck, envelopeKeyCheck}
 use Rattle.envelope.proofs.Laws.{limit-judged, hashed}
 use borrow.Author.Needs.{needs}
 use Rattle.envelope.proofs.check_key.Statement.{statement}
 use Rattle.envelope.proofs.check_key.Tie as tie
 
-refuse-requires : tie.Need-refuse-requires
-refuse-requires c κs = search needs
+-- ---- the length is right
+
+sixteen : (e : tie.Else1) → refusedIf (not (eqb (length (e .before .before .before .args .key .now)) 16)) envelope-key 0 ≡ silent
+sixteen e =
+    let long = eqb (length (e .before .before .before .args .key .now)) 16 in
+    quiet {test = not long} envelope-key 0 refl (rw (eq-eqb _ 16 (e .if1 .left)))
+
+-- ---- the hash is taken
+
+abbrev Hashed : Type 0
+Hashed = tie.After-digest
+
+abbrev long-at : Hashed → tie.Else1
+long-at d = d .before .before
+
+abbrev start-at : Hashed → tie.Start
+start-at d = long-at d .before .before .before
+
+limit-is : (d : Hashed)
+    → let s = start-at d .args .file .now in
+    checkOf (d .digest .result .verdict) ≡ limitCheck s (headerOf s)
+limit-is d =
+    let a = start-at d .args in
+    let s = a .file .now in
+    d .digest .ensures .0 ∙ ap (λ m. limited (length m)) (d .before .keyed .ensures)
+    ∙ limit-judged s (a .h) (search needs) ∙ ap (limitCheck s) (start-at d .pre)
+
+-- ---- it is compared
+
+abbrev Compared : Type 0
+Compared = tie.After-equal
+
+abbrev hashed-at : Compared → Hashed
+hashed-at q = q .before .before .before .before .before
+
+limit-silent : (q : Compared)
+    → let s = start-at (hashed-at q) .args .file .now in
+    limitCheck s (headerOf s) ≡ silent
+limit-silent q =
+    let d = hashed-at q in
+    passed-is (d .digest .result .verdict) _ (limit-is d) (q .before .before .enum-told2 .given .1)
+
+same-as : (q : Compared)
+    → let a = start-at (hashed-at q) .args in
+    let s = a .file .now in
+    q .equal .result ≡ sameBytes (md5 (keyed s (headerOf s))) (a .key .now)
+same-as q =
+    let d = hashed-at q in
+    let k = d .before .keyed in
+    let start = start-at d in
+    let none = passed-is (d .digest .result .verdict) _ (d .digest .ensures .0) (q .before .before .enum-told2 .given .1) in
+    let hash = hashed (k .result .now) (d .digest .result .bytes) none (d .digest .ensures .1) in
+    let is = hash ∙ ap md5 (k .ensures ∙ ap (keyed (start .args .file .now)) (start .pre)) in
+    q .equal .ensures ∙ ap (λ b. sameBytes b (start .args .key .now)) is
 
 returns : tie.Need-returns
 unfolding envelopeKeyCheck
 returns c = c .refuse .ensures ∙ sym (first-said _ (said refl (rw (ne-eqb _ 16 (c .before .if1 .taken)))))
 
-keyed-requires : tie.Need-keyed-requires
-keyed-requires c κs = search needs
-
-digest-requires : tie.Need-digest-requires
-digest-requires c κs = search needs
-
-enum-told : tie.Need-enum-told
-enum-told c = search needs
-
 returns-2 : tie.Need-returns-2
 unfolding envelopeKeyCheck checkOf
 returns-2 c =
-    let start = c .before .before .before .before .before .before .before .before in
-    let d = c .before .before .before .digest in
-    let k = c .before .before .before .before .keyed in
-    let s = start .args .file .now in
-    let lim = d .ensures .0 ∙ ap (λ m. limited (length m)) (k .ensures) ∙ limit-judged s (start .args .h) (search needs) ∙ ap (limitCheck s) (start .pre) in
-    let sixteen : refusedIf (not (eqb (length (start .args .key .now)) 16)) envelope-key 0 ≡ silent = quiet {test = not (eqb (length (start .args .key .now)) 16)} envelope-key 0 refl (rw (eq-eqb _ 16 (c .before .before .before .before .before .if1 .left))) in
+    let d = c .before .before .before in
     let r = c .enum-told .given in
-    rw (r .1) (sym (skip sixteen (first-said _ (refused-is (d .result .verdict) _ lim (r .1)))))
-
-enum-told-2 : tie.Need-enum-told-2
-enum-told-2 c = search needs
-
-slice-aggregate-equal : tie.Need-slice-aggregate-equal
-slice-aggregate-equal c = search needs
-
-equal-requires : tie.Need-equal-requires
-equal-requires c κs = search needs
-
-refuse-requires-2 : tie.Need-refuse-requires-2
-refuse-requires-2 c κs = search needs
+    rw (r .1) (sym (skip (sixteen (long-at d)) (first-said _ (refused-is (d .digest .result .verdict) _ (limit-is d) (r .1)))))
 
 returns-3 : tie.Need-returns-3
 unfolding envelopeKeyCheck
 returns-3 c =
-    let start = c .before .before .before .before .before .before .before .before .before .before .before .before in
-    let d = c .before .before .before .before .before .before .before .digest in
-    let k = c .before .before .before .before .before .before .before .before .keyed in
-    let s = start .args .file .now in
-    let lim = d .ensures .0 ∙ ap (λ m. limited (length m)) (k .ensures) ∙ limit-judged s (start .args .h) (search needs) ∙ ap (limitCheck s) (start .pre) in
-    let sixteen : refusedIf (not (eqb (length (start .args .key .now)) 16)) envelope-key 0 ≡ silent = quiet {test = not (eqb (length (start .args .key .now)) 16)} envelope-key 0 refl (rw (eq-eqb _ 16 (c .before .before .before .before .before .before .before .before .before .if1 .left))) in
-    let none = passed-is (d .result .verdict) _ (d .ensures .0) (c .before .before .before .before .enum-told2 .given .1) in
-    let is = hashed (k .result .now) (d .result .bytes) none (d .ensures .1) ∙ ap md5 (k .ensures ∙ ap (keyed s) (start .pre)) in
-    let quiet-lim = passed-is (d .result .verdict) _ lim (c .before .before .before .before .enum-told2 .given .1) in
-    c .refuse2 .ensures ∙ sym (skip sixteen (skip quiet-lim (said refl (ap not (sym (c .before .before .equal .ensures ∙ ap (λ b. sameBytes b (start .args .key .now)) is)) ∙ c .before .if2 .taken))))
+    let q = c .before .before in
+    let other = said refl (ap not (sym (same-as q)) ∙ c .before .if2 .taken) in
+    c .refuse2 .ensures ∙ sym (skip (sixteen (long-at (hashed-at q))) (skip (limit-silent q) other))
 
 returns-4 : tie.Need-returns-4
 unfolding envelopeKeyCheck checkOf
 returns-4 c =
-    let start = c .before .before .before .before .before .before .before .before .before .before .before in
-    let d = c .before .before .before .before .before .before .digest in
-    let k = c .before .before .before .before .before .before .before .keyed in
-    let s = start .args .file .now in
-    let lim = d .ensures .0 ∙ ap (λ m. limited (length m)) (k .ensures) ∙ limit-judged s (start .args .h) (search needs) ∙ ap (limitCheck s) (start .pre) in
-    let sixteen : refusedIf (not (eqb (length (start .args .key .now)) 16)) envelope-key 0 ≡ silent = quiet {test = not (eqb (length (start .args .key .now)) 16)} envelope-key 0 refl (rw (eq-eqb _ 16 (c .before .before .before .before .before .before .before .before .if1 .left))) in
-    let none = passed-is (d .result .verdict) _ (d .ensures .0) (c .before .before .before .enum-told2 .given .1) in
-    let is = hashed (k .result .now) (d .result .bytes) none (d .ensures .1) ∙ ap md5 (k .ensures ∙ ap (keyed s) (start .pre)) in
-    let quiet-lim = passed-is (d .result .verdict) _ lim (c .before .before .before .enum-told2 .given .1) in
-    sym (skip sixteen (skip quiet-lim (quiet envelope-key 0 refl (ap not (sym (c .before .equal .ensures ∙ ap (λ b. sameBytes b (start .args .key .now)) is)) ∙ c .if2 .left))))
+    let q = c .before in
+    let same = quiet envelope-key 0 refl (ap not (sym (same-as q)) ∙ c .if2 .left) in
+    sym (skip (sixteen (long-at (hashed-at q))) (skip (limit-silent q) same))
 
 pub check-key-spec : {M : Type 1} → statement M
 check-key-spec =
     tie.close
     (tie.spec
-    refuse-requires
+    (λ c κs. search needs)
     returns
-    keyed-requires
-    digest-requires
-    enum-told
+    (λ c κs. search needs)
+    (λ c κs. search needs)
+    (λ c. search needs)
     returns-2
-    enum-told-2
-    slice-aggregate-equal
-    equal-requires
-    refuse-requires-2
+    (λ c. search needs)
+    (λ c. search needs)
+    (λ c κs. search needs)
+    (λ c κs. search needs)
     returns-3
     returns-4)

@@ -1,5 +1,5 @@
 -- `envelope::content_length`: what is judged, then the length.
-use mathlib.Core.Path.{_≡_, refl, sym, ap, ap₂, _∙_}
+use mathlib.Core.Path.{sym, ap, _∙_}
 use mathlib.Core.List.{[], _∷_}
 use lib.ListN.{length}
 use Rattle.refusal.specs.Outcome.{answered, writtenOutcome}
@@ -11,15 +11,6 @@ use Rattle.envelope.proofs.Laws.{judged-sizes}
 use borrow.Author.Needs.{needs}
 use Rattle.envelope.proofs.content_length.Statement.{statement}
 use Rattle.envelope.proofs.content_length.Tie as tie
-
-judge-requires : tie.Need-judge-requires
-judge-requires c κs = search needs
-
-enum-known-r : tie.Need-enum-known-r
-enum-known-r c = search needs
-
-enum-known-h : tie.Need-enum-known-h
-enum-known-h c = search needs
 
 length-of-requires : tie.Need-length-of-requires
 length-of-requires c κs =
@@ -48,4 +39,4 @@ returns-2 c =
 pub content-length-spec : {M : Type 1} → statement M
 content-length-spec =
     tie.close
-    (tie.spec judge-requires enum-known-r enum-known-h length-of-requires returns returns-2)
+    (tie.spec (λ c κs. search needs) (λ c. search needs) (λ c. search needs) length-of-requires returns returns-2)

@@ -1,19 +1,8 @@
 -- `envelope::keyed`: the header, or the whole file.
-use mathlib.Core.Path.{_≡_, refl, sym, ap, _∙_}
-use borrow.Author.Tests.{not-true}
 use Rattle.envelope.specs.Envelope.{keyed}
 use borrow.Author.Needs.{needs}
 use Rattle.envelope.proofs.keyed.Statement.{statement}
 use Rattle.envelope.proofs.keyed.Tie as tie
-
-tabled-requires : tie.Need-tabled-requires
-tabled-requires c κs = search needs
-
-length-requires : tie.Need-length-requires
-length-requires c κs = search needs
-
-part-requires : tie.Need-part-requires
-part-requires c κs = search needs
 
 returns : tie.Need-returns
 unfolding keyed
@@ -24,4 +13,4 @@ unfolding keyed
 returns-2 c = rw (← c .before .tabled .ensures, c .if1 .left)
 
 pub keyed-spec : {M : Type 1} → statement M
-keyed-spec = tie.close (tie.spec tabled-requires length-requires part-requires returns returns-2)
+keyed-spec = tie.close (tie.spec (λ c κs. search needs) (λ c κs. search needs) (λ c κs. search needs) returns returns-2)

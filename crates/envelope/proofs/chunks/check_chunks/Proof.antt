@@ -1,22 +1,13 @@
 -- `envelope::chunks::check_chunks`: a table, or one chunk.
-use mathlib.Core.Path.{_≡_, refl, sym, ap, ap₂, _∙_}
-use Rattle.envelope_header.specs.Header.{headerLength, chunkAt}
+use mathlib.Core.Path.{sym, _∙_}
+use Rattle.envelope_header.specs.Header.{chunkAt}
 use Rattle.envelope.proofs.Laws.{single-chunk}
 use borrow.Author.Needs.{needs}
 use Rattle.envelope.proofs.chunks.check_chunks.Statement.{statement}
 use Rattle.envelope.proofs.chunks.check_chunks.Tie as tie
 
-tabled-requires : tie.Need-tabled-requires
-tabled-requires c κs = search needs
-
 check-table-requires : tie.Need-check-table-requires
 check-table-requires c κs = (sym (c .before .tabled .ensures) ∙ c .if1 .taken, c .before .before .before .pre)
-
-returns : tie.Need-returns
-returns c = search needs
-
-length-requires : tie.Need-length-requires
-length-requires c κs = search needs
 
 check-mode-requires : tie.Need-check-mode-requires
 unfolding chunkAt
@@ -29,9 +20,9 @@ pub check-chunks-spec : {M : Type 1} → statement M
 check-chunks-spec =
     tie.close
     (tie.spec
-    tabled-requires
+    (λ c κs. search needs)
     check-table-requires
-    returns
-    length-requires
+    (λ c. search needs)
+    (λ c κs. search needs)
     check-mode-requires
     returns-2)

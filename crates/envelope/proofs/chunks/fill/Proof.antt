@@ -7,7 +7,7 @@ use native.Mathlib.Omega.{arith}
 use lib.ListN.{length, drop}
 use borrow.Author.Needs.{needs}
 use Rattle.refusal.specs.Output.{filled}
-use Rattle.parts.specs.Part.{partAt, partsFrom}
+use Rattle.parts.specs.Part.{partAt, partsFrom, overlay}
 use Rattle.parts.proofs.Parts.{filled-length, parts-room, part-turn}
 use Rattle.envelope_header.specs.Header.{chunkCount, chunkAt}
 use Rattle.envelope_header.proofs.Laws.{chunk-after}
@@ -18,80 +18,91 @@ use Rattle.envelope.proofs.chunks.fill.Tie as tie
 
 abbrev Inv-loop : tie.InvT-loop
 Inv-loop file h output₀ chunks at₀ to₀ i₀ output at to i =
-    (i ≤ chunkCount h) × (at ≡ chunkAt file h i) × (to ≡ length (partsFrom (contentOf file h) 0 i)) × (output ≡ partsFrom (contentOf file h) 0 i ++ drop (length (partsFrom (contentOf file h) 0 i)) output₀)
+    (i ≤ chunkCount h) × (at ≡ chunkAt file h i) × (to ≡ length (partsFrom (contentOf file h) 0 i))
+    × (output ≡ partsFrom (contentOf file h) 0 i ++ drop (length (partsFrom (contentOf file h) 0 i)) output₀)
 
 abbrev μ-loop : tie.MeasureT-loop
 μ-loop file h output₀ chunks at₀ to₀ i₀ output at to i = chunks - i
 
-chunks-requires : tie.Need-chunks-requires Inv-loop μ-loop
-chunks-requires c κs = search needs
+-- ---- a turn, once the size of its chunk is known
 
-length-requires : tie.Need-length-requires Inv-loop μ-loop
-length-requires c κs = search needs
+abbrev Turn : Type 0
+Turn = tie.After-encoded-size Inv-loop μ-loop
+
+abbrev loop-at : Turn → tie.At-loop Inv-loop μ-loop
+loop-at t = t .before .before
+
+abbrev start-at : Turn → tie.Start Inv-loop μ-loop
+start-at t = loop-at t .before .before .before .before .before
+
+there : (t : Turn) → loop-at t .loop .i < chunkCount (start-at t .args .h)
+there t = omega (arith, t .before .loop-test .taken, loop-at t .before .before .chunks .ensures)
+
+ends : (t : Turn) → loop-at t .loop .at + t .encoded-size .result ≤ length (start-at t .args .file .now)
+ends t =
+    let l = loop-at t .loop in
+    omega (arith, inside _ _ (start-at t .pre .0) (l .i) (there t), l .inv .1, t .encoded-size .ensures)
+
+-- ---- its content is copied
+
+abbrev Copied : Type 0
+Copied = tie.After-slice-known2 Inv-loop μ-loop
+
+abbrev turn-at : Copied → Turn
+turn-at c = c .before .before .before .before .before .before
+
+one-more : (c : Copied)
+    → let t = turn-at c in
+    let a = start-at t .args in
+    let l = loop-at t .loop in
+    let content = c .before .before .before .before .part .result .now in
+    let contents = partsFrom (contentOf (a .file .now) (a .h)) 0 (l .i + 1) in
+    (l .to + length content ≡ length contents) × (overlay (l .output) (l .to) content ≡ contents ++ drop (length contents) (a .output .now))
+unfolding contentBy
+one-more c =
+    let t = turn-at c in
+    let start = start-at t in
+    let l = loop-at t .loop in
+    let parted = c .before .before .before .before in
+    let size = parted .before .rest .ensures ∙ ap (λ n. n - 1) (t .encoded-size .ensures) in
+    let content = parted .part .ensures .0 ∙ ap₂ (partAt _) (ap (λ n. n + 1) (l .inv .1)) size in
+    part-turn _ (l .i) _ _ _ _ _ (there t) (start .pre .1) content (l .inv .2) (l .inv .3)
 
 loop-holds : tie.Need-loop-holds Inv-loop μ-loop
 unfolding partsFrom chunkAt
 loop-holds c = (omega arith, c .length .ensures, refl, refl)
 
-encoded-size-requires : tie.Need-encoded-size-requires Inv-loop μ-loop
-encoded-size-requires c κs = search needs
-
 add-part : tie.Need-add-part Inv-loop μ-loop
 add-part c =
-    let a = c .before .before .before .before .before .before .before .args in
-    let f = a .file .now in
-    let l = c .before .before .loop in
-    let i : l .i < chunkCount (a .h) = omega (arith, c .before .loop-test .taken, c .before .before .before .before .chunks .ensures) in
-    let there = inside f (a .h) (c .before .before .before .before .before .before .before .pre .0) (l .i) i in
-    omega (arith, there, not-empty f (a .h) (c .before .before .before .before .before .before .before .pre .0) (l .i) i, l .inv .1, c .before .before .before .before .before .before .before .good)
-
-rest-requires : tie.Need-rest-requires Inv-loop μ-loop
-rest-requires c κs = search needs
-
-part-requires : tie.Need-part-requires Inv-loop μ-loop
-part-requires c κs = search needs
-
-copy-requires : tie.Need-copy-requires Inv-loop μ-loop
-copy-requires c κs = search needs
+    let start = start-at c in
+    let l = loop-at c .loop in
+    omega (arith, ends c, not-empty _ _ (start .pre .0) (l .i) (there c), c .encoded-size .ensures, start .good)
 
 add-to : tie.Need-add-to Inv-loop μ-loop
 unfolding contentBy
 add-to c =
-    let a = c .before .before .before .before .before .before .before .before .before .before .before .before .before .args in
-    let f = a .file .now in
-    let l = c .before .before .before .before .before .before .before .before .loop in
-    let i : l .i < chunkCount (a .h) = omega (arith, c .before .before .before .before .before .before .before .loop-test .taken, c .before .before .before .before .before .before .before .before .before .before .chunks .ensures) in
-    let there = inside f (a .h) (c .before .before .before .before .before .before .before .before .before .before .before .before .before .pre .0) (l .i) i in
-    let content = c .before .before .before .before .part .ensures .0 ∙ ap₂ (partAt f) (ap (λ n. n + 1) (l .inv .1)) (c .before .before .before .before .before .rest .ensures ∙ ap (λ n. n - 1) (c .before .before .before .before .before .before .encoded-size .ensures)) in
-    let turn = part-turn (contentOf f (a .h)) (l .i) (chunkCount (a .h)) _ (a .output .now) _ _ i (c .before .before .before .before .before .before .before .before .before .before .before .before .before .pre .1) content (l .inv .2) (l .inv .3) in
-    omega (arith, turn .0, parts-room (contentOf f (a .h)) (l .i + 1) (chunkCount (a .h)) (omega arith), c .before .before .before .before .before .before .before .before .before .before .before .before .before .pre .1, c .before .before .before .before .before .before .before .before .before .before .before .before .before .good)
+    let t = turn-at c in
+    let start = start-at t in
+    let a = start .args in
+    let i = loop-at t .loop .i in
+    let room = parts-room (contentOf (a .file .now) (a .h)) (i + 1) (chunkCount (a .h)) (omega (arith, there t)) in
+    omega (arith, one-more c .0, room, start .pre .1, start .good)
 
 add-at : tie.Need-add-at Inv-loop μ-loop
 add-at c =
-    let a = c .before .before .before .before .before .before .before .before .before .before .before .before .before .args in
-    let f = a .file .now in
-    let l = c .before .before .before .before .before .before .before .before .loop in
-    let i : l .i < chunkCount (a .h) = omega (arith, c .before .before .before .before .before .before .before .loop-test .taken, c .before .before .before .before .before .before .before .before .before .before .chunks .ensures) in
-    let there = inside f (a .h) (c .before .before .before .before .before .before .before .before .before .before .before .before .before .pre .0) (l .i) i in
-    omega (arith, there, l .inv .1, c .before .before .before .before .before .before .encoded-size .ensures, c .before .before .before .before .before .before .before .before .before .before .before .before .before .good)
-
-add-i : tie.Need-add-i Inv-loop μ-loop
-add-i c = search needs
-
-loop-less : tie.Need-loop-less Inv-loop μ-loop
-loop-less c = search needs
+    let t = turn-at c in
+    omega (arith, ends t, start-at t .good)
 
 loop-again : tie.Need-loop-again Inv-loop μ-loop
-unfolding contentBy
 loop-again c =
-    let a = c .before .before .before .before .before .before .before .before .before .before .before .before .before .args in
-    let f = a .file .now in
-    let l = c .before .before .before .before .before .before .before .before .loop in
-    let i : l .i < chunkCount (a .h) = omega (arith, c .before .before .before .before .before .before .before .loop-test .taken, c .before .before .before .before .before .before .before .before .before .before .chunks .ensures) in
-    let there = inside f (a .h) (c .before .before .before .before .before .before .before .before .before .before .before .before .before .pre .0) (l .i) i in
-    let content = c .before .before .before .before .part .ensures .0 ∙ ap₂ (partAt f) (ap (λ n. n + 1) (l .inv .1)) (c .before .before .before .before .before .rest .ensures ∙ ap (λ n. n - 1) (c .before .before .before .before .before .before .encoded-size .ensures)) in
-    let turn = part-turn (contentOf f (a .h)) (l .i) (chunkCount (a .h)) _ (a .output .now) _ _ i (c .before .before .before .before .before .before .before .before .before .before .before .before .before .pre .1) content (l .inv .2) (l .inv .3) in
-    (omega arith, ap₂ _+_ (l .inv .1) (c .before .before .before .before .before .before .encoded-size .ensures) ∙ sym (chunk-after f (a .h) (l .i)), turn .0, c .before .before .copy .ensures ∙ turn .1)
+    let t = turn-at c in
+    let l = loop-at t .loop in
+    let more = one-more c in (
+      omega (arith, there t),
+      ap₂ _+_ (l .inv .1) (t .encoded-size .ensures) ∙ sym (chunk-after _ _ (l .i)),
+      more .0,
+      c .before .before .copy .ensures ∙ more .1,
+    )
 
 same-length : tie.Need-same-length Inv-loop μ-loop
 unfolding contentBy
@@ -99,7 +110,9 @@ same-length c =
     let start = c .before .before .before .before .before .before in
     let a = start .args in
     let l = c .before .loop in
-    filled-length (partsFrom (contentOf (a .file .now) (a .h)) 0 (l .i)) (a .output .now) (l .output) (l .inv .3) (le-trans (parts-room (contentOf (a .file .now) (a .h)) (l .i) (chunkCount (a .h)) (l .inv .0)) (start .pre .1))
+    let contents = contentOf (a .file .now) (a .h) in
+    filled-length (partsFrom contents 0 (l .i)) (a .output .now) (l .output) (l .inv .3)
+    (le-trans (parts-room contents (l .i) (chunkCount (a .h)) (l .inv .0)) (start .pre .1))
 
 returns : tie.Need-returns Inv-loop μ-loop
 unfolding filled contentBy
@@ -107,8 +120,9 @@ returns c =
     let start = c .before .before .before .before .before .before in
     let a = start .args in
     let l = c .before .loop in
-    let e : l .i ≡ chunkCount (a .h) = omega (arith, l .inv .0, c .loop-test .left, c .before .before .before .chunks .ensures) in
-    l .inv .3 ∙ ap (λ i. partsFrom (contentOf (a .file .now) (a .h)) 0 i ++ drop (length (partsFrom (contentOf (a .file .now) (a .h)) 0 i)) (a .output .now)) e
+    let contents = partsFrom (contentOf (a .file .now) (a .h)) 0 in
+    let all : l .i ≡ chunkCount (a .h) = omega (arith, l .inv .0, c .loop-test .left, c .before .before .before .chunks .ensures) in
+    l .inv .3 ∙ ap (λ i. contents i ++ drop (length (contents i)) (a .output .now)) all
 
 pub fill-spec : {M : Type 1} → statement M
 fill-spec =
@@ -116,18 +130,18 @@ fill-spec =
     (tie.spec
     Inv-loop
     μ-loop
-    chunks-requires
-    length-requires
+    (λ c κs. search needs)
+    (λ c κs. search needs)
     loop-holds
-    encoded-size-requires
+    (λ c κs. search needs)
     add-part
-    rest-requires
-    part-requires
-    copy-requires
+    (λ c κs. search needs)
+    (λ c κs. search needs)
+    (λ c κs. search needs)
     add-to
     add-at
-    add-i
-    loop-less
+    (λ c. search needs)
+    (λ c. search needs)
     loop-again
     same-length
     returns)

@@ -1,22 +1,12 @@
 -- `envelope::chunks::length_of`: the file less its header and a byte for each chunk.
-use mathlib.Core.Path.{_≡_, refl, sym, ap, ap₂, _∙_}
 use native.Mathlib.Omega.{arith}
 use Rattle.envelope.proofs.Laws.{content-whole}
 use borrow.Author.Needs.{needs}
 use Rattle.envelope.proofs.chunks.length_of.Statement.{statement}
 use Rattle.envelope.proofs.chunks.length_of.Tie as tie
 
-length-requires : tie.Need-length-requires
-length-requires c κs = search needs
-
 sub-result : tie.Need-sub-result
 sub-result c = omega (arith, content-whole _ _ (c .before .before .pre), c .length .ensures)
-
-chunks-requires : tie.Need-chunks-requires
-chunks-requires c κs = search needs
-
-cast-result : tie.Need-cast-result
-cast-result c = search needs
 
 sub-result-2 : tie.Need-sub-result-2
 sub-result-2 c = omega (arith, content-whole _ _ (c .before .before .before .pre), c .before .length .ensures, c .chunks .ensures)
@@ -27,4 +17,4 @@ returns c = omega (arith, content-whole _ _ (c .before .before .before .pre), c 
 pub length-of-spec : {M : Type 1} → statement M
 length-of-spec =
     tie.close
-    (tie.spec length-requires sub-result chunks-requires cast-result sub-result-2 returns)
+    (tie.spec (λ c κs. search needs) sub-result (λ c κs. search needs) (λ c. search needs) sub-result-2 returns)
