@@ -23,7 +23,10 @@ use Rattle.encoding_header.specs.declared.Table.{Table}
 use Rattle.encoding_header.specs.declared.Header.{Header}
 use Rattle.encoding_header.specs.declared.Opened.{Opened}
 use Rattle.encoding_header.specs.declared.Opened.the-variants.{Passed, Refused}
-use Rattle.encoding_header.specs.Header.{headerSize, versionAt, flagsAt, version, leastKeySize, mostKeySize, flags, hashSize, headerOf, tableOf, rowSize, pageSize, indexSize, tableSize, indexAt, rowAt, pageAt, endOf, specTable, firstKey, pageHash, pageOf, magicCheck, tableRight, headerRight, headerCheck, cutCheck, opening, tableValues, headerValues, outcome}
+use Rattle.encoding_header.specs.Header.{headerSize, versionAt, flagsAt, version, leastKeySize, mostKeySize, flags, hashSize, headerOf, tableOf}
+use Rattle.encoding_header.specs.Header.{rowSize, pageSize, indexSize, tableSize, indexAt, rowAt, pageAt, endOf, specTable, firstKey, pageHash}
+use Rattle.encoding_header.specs.Header.{pageOf, magicCheck, tableRight, headerRight, headerCheck, cutCheck, opening, tableValues, headerValues}
+use Rattle.encoding_header.specs.Header.{outcome}
 
 -- ---- tests in a row: one that holds, and the first that fails
 

@@ -23,7 +23,8 @@ use Rattle.encoding_page.proofs.Laws.{searched-inside}
 use Rattle.encoding_index.specs.Chosen.{upTo, pagesUpTo}
 use Rattle.encoding_lookup.specs.declared.Seek.{Seek}
 use Rattle.encoding_lookup.specs.declared.Seek.the-variants.{Entry, Nowhere, Over}
-use Rattle.encoding_lookup.specs.Lookup.{pageSeek, seekOn, seek, lookupCheck, seekTold, contentTold, contentLookup, toldValue, placeTold, partTold, placeAfter, specStringAt, encodingTold, encodingLookup}
+use Rattle.encoding_lookup.specs.Lookup.{pageSeek, seekOn, seek, lookupCheck, seekTold, contentTold, contentLookup, toldValue}
+use Rattle.encoding_lookup.specs.Lookup.{placeTold, partTold, placeAfter, specStringAt, encodingTold, encodingLookup}
 use Rattle.encoding_lookup.proofs.Laws.{nowhere-no-entry, over-no-entry}
 
 -- ---- an entry that the search of the chosen page tells

@@ -13,6 +13,7 @@ use Rattle.numbers.specs.Number.{bigAt}
 use Rattle.refusal.specs.Check.{Check, silent, refused, refusedIf, first}
 use Rattle.refusal.specs.Number.{encoding-key-length, entry-over-page, spec-number}
 use Rattle.refusal.specs.Outcome.{Outcome, answered, refusal, after}
+use Rattle.refusal.specs.declared.Refusal.{Refusal}
 use Rattle.refusal.proofs.Laws.{said, quiet, skip, after-said, after-quiet}
 use Rattle.spec_table.specs.Specs.{countOf, startOf, lengthAt}
 use Rattle.spec_table.proofs.Table.{spec-closed, spec-past}
@@ -20,14 +21,18 @@ use Rattle.encoding_header.specs.declared.Kind.{Kind}
 use Rattle.encoding_header.specs.declared.Kind.the-variants.{Content, Encoding}
 use Rattle.encoding_header.specs.declared.Table.{Table}
 use Rattle.encoding_header.specs.declared.Header.{Header}
-use Rattle.encoding_header.specs.Header.{headerSize, headerOf, tableOf, pageAt, pageEnd, specTable, opening}
+use Rattle.encoding_header.specs.declared.Opened.{Opened}
+use Rattle.encoding_header.specs.declared.Opened.the-variants.{Passed, Refused}
+use Rattle.encoding_header.specs.Header.{headerSize, headerOf, tableOf, pageAt, pageEnd, specTable, opening, outcome}
+use Rattle.encoding_header.proofs.Laws.{passed-header, refused-header}
 use Rattle.encoding_page.specs.declared.Search.{Search}
 use Rattle.encoding_page.specs.declared.Search.the-variants.{At, End}
 use Rattle.encoding_page.specs.Entries.{specNumber, walkFrom, searched, overEnd}
 use Rattle.encoding_index.specs.Chosen.{pagesUpTo}
 use Rattle.encoding_lookup.specs.declared.Seek.{Seek}
 use Rattle.encoding_lookup.specs.declared.Seek.the-variants.{Entry, Nowhere, Over}
-use Rattle.encoding_lookup.specs.Lookup.{pageSeek, seekOn, seek, lengthCheck, lookupCheck, seekTold, contentLookup, toldValue, partTold, encodingKeys, specCheck, specAt, specLength, specTold, encodingTold}
+use Rattle.encoding_lookup.specs.Lookup.{pageSeek, seekOn, seek, lengthCheck, lookupCheck, openedFor, seekTold, contentLookup, toldValue}
+use Rattle.encoding_lookup.specs.Lookup.{partTold, encodingKeys, specCheck, specAt, specLength, specTold, encodingTold}
 
 -- ---- 39
 
@@ -91,11 +96,19 @@ nowhere-no-entry at q = let z : _≡_ {A = ℕ} 0 1 = cc in omega arith
 pub over-no-entry : (page at : ℕ) → Over page ≡ Entry at → ⊥
 over-no-entry page at q = let z : _≡_ {A = ℕ} 0 1 = cc in omega arith
 
--- ---- what a lookup tells, by the search's end
+-- ---- what a lookup tells of a file that was opened for a key
 
-pub lookup-told : (k : Check) (told : Header → ℕ → Outcome) (search : Header → Seek) (h m : Header) (end : Seek) → k ≡ silent → h ≡ m → end ≡ search h
-    → (v : Seek) → end ≡ v → seekTold (told h) v ≡ after k (seekTold (told m) (search m))
-lookup-told k told search h m end e g f v w = rw (← g) (sym (after-quiet (seekTold (told h) (search h)) e ∙ ap (seekTold (told h)) (sym f ∙ w)))
+module _ (s : List ℕ) (kind : Kind) (key : List ℕ) (told : Header → ℕ → Outcome) (opened : Opened) (o : outcome opened ≡ openedFor s kind key) where
+  pub lookup-refused : {r : Refusal} → opened ≡ Refused r
+      → refusal (r .number) (r .place) ≡ after (lookupCheck s kind key) (seekTold (told (headerOf s)) (seek s (headerOf s) kind key))
+  lookup-refused e = sym (after-said _ (refused-header (lookupCheck s kind key) (headerOf s) opened o e))
+
+  -- by the end of the search
+  pub lookup-told : (h : Header) → opened ≡ Passed h → (end v : Seek) → end ≡ seek s h kind key → end ≡ v
+      → seekTold (told h) v ≡ after (lookupCheck s kind key) (seekTold (told (headerOf s)) (seek s (headerOf s) kind key))
+  lookup-told h p end v f w =
+      let i = passed-header (lookupCheck s kind key) h (headerOf s) opened o p in
+      rw (← i .1) (sym (after-quiet (seekTold (told h) (seek s h kind key)) (i .0) ∙ ap (seekTold (told h)) (sym f ∙ w)))
 
 -- ---- the run of encoding keys
 

@@ -16,7 +16,9 @@ use Rattle.encoding_header.specs.Header.{tableOf}
 use Rattle.encoding_page.specs.declared.Span.{Span}
 use Rattle.encoding_page.specs.declared.Search.{Search}
 use Rattle.encoding_page.specs.declared.Search.the-variants.{At, End}
-use Rattle.encoding_page.specs.Entries.{keyOffset, keySize, entrySize, keyAt, specNumber, noSpec, padding, ended, Walk, turn, walkBy, walkFrom, headOr, nextEntry, risesTo, rising, lastKey, all, specKnown, startsWith, overEnd, searchIn, searched, spanOf, keySpan, lastSpan}
+use Rattle.encoding_page.specs.Entries.{keyOffset, keySize, entrySize, keyAt, specNumber, noSpec, padding, ended, Walk, turn, walkBy, walkFrom}
+use Rattle.encoding_page.specs.Entries.{headOr, nextEntry, risesTo, rising, lastKey, all, specKnown, startsWith, overEnd, searchIn, searched}
+use Rattle.encoding_page.specs.Entries.{spanOf, keySpan, lastSpan}
 
 -- ---- tests
 

@@ -20,9 +20,11 @@ use Rattle.refusal.specs.Output.{filled}
 use Rattle.refusal.specs.Number.{chunk-sizes, chunk-hash, decoded-size, hash-limit}
 use Rattle.refusal.proofs.Laws.{said, quiet, silent-test, refused-test, first-said, skip, first-left, first-right, from-each, upto-said, upto-quiet, upto-end}
 use Rattle.envelope_header.specs.declared.Header.{Header}
-use Rattle.envelope_header.specs.Header.{headerOf, tableAt, rowSize, shortSize, tabled, chunkCount, headerLength, rowAt, encodedSize, decodedSize, chunkHash, chunkAt, emptyCheck, sumCheck, magicCheck, headerCheck, sizesCheck, opening}
+use Rattle.envelope_header.specs.Header.{headerOf, tableAt, rowSize, shortSize, tabled, chunkCount, headerLength, rowAt, encodedSize, decodedSize}
+use Rattle.envelope_header.specs.Header.{chunkHash, chunkAt, emptyCheck, sumCheck, magicCheck, headerCheck, sizesCheck, opening}
 use Rattle.envelope_header.proofs.Laws.{chunk-after, chunk-upto}
-use Rattle.envelope.specs.Envelope.{chunkOf, sizeOrNone, contentOf, contentBy, hashCheck, modeCheck, decodedCheck, chunkCheck, chunksCheck, keyed, limitCheck, envelopeKey, keyOfCheck, carriedKey, envelopeKeyCheck, contentCheck}
+use Rattle.envelope.specs.Envelope.{chunkOf, sizeOrNone, contentOf, contentBy, hashCheck, modeCheck, decodedCheck, chunkCheck, chunksCheck}
+use Rattle.envelope.specs.Envelope.{keyed, limitCheck, envelopeKey, keyOfCheck, carriedKey, envelopeKeyCheck, contentCheck}
 
 module _ (s : List ℕ) (h : Header) (e : sizesCheck s h ≡ silent) where
   pub whole : chunkAt s h (chunkCount h) ≡ length s

@@ -17,7 +17,8 @@ use Rattle.refusal.specs.Number.{envelope-key, chunk-hash, chunk-mode, decoded-
 use Rattle.refusal.proofs.Laws.{silent-test, first-left, first-right, from-each}
 use Rattle.envelope_header.specs.declared.Header.{Header}
 use Rattle.envelope_header.specs.Header.{headerOf, tabled, chunkCount, headerLength, encodedSize, decodedSize, chunkHash, chunkAt, sizesCheck, opening}
-use Rattle.envelope.specs.Envelope.{chunkOf, plainMode, modeOf, contentOf, contentBy, content, envelopeKey, limitCheck, envelopeKeyCheck, hashCheck, modeCheck, decodedCheck, chunkCheck, chunksCheck, contentCheck}
+use Rattle.envelope.specs.Envelope.{chunkOf, plainMode, modeOf, contentOf, contentBy, content, envelopeKey, limitCheck, envelopeKeyCheck}
+use Rattle.envelope.specs.Envelope.{hashCheck, modeCheck, decodedCheck, chunkCheck, chunksCheck, contentCheck}
 use Rattle.envelope.specs.Content.{plainChunk, plainChunks, joined, contentAt, decodedFrom, Opens, OpensTable}
 use Rattle.envelope.proofs.Laws.{judged-sizes, whole, not-empty, inside, content-length}
 

@@ -5,26 +5,20 @@ use Rattle.encoding.proofs.Laws.{page-judged, key-after}
 use Rattle.encoding.proofs.check_page.Statement.{statement}
 use Rattle.encoding.proofs.check_page.Tie as tie
 
-page-end-requires : tie.Need-page-end-requires
-page-end-requires c κs = search needs
-
-page-at-requires : tie.Need-page-at-requires
-page-at-requires c κs = search needs
-
-walk-requires : tie.Need-walk-requires
-walk-requires c κs = search needs
-
-judge-requires : tie.Need-judge-requires
-judge-requires c κs = search needs
-
 returns : tie.Need-returns
-returns c = let p = c .before .before .before .before .before .before .pre in
-    let w = c .before .before .walk in (
+returns c =
+    let walked = c .before .before in
+    let placed = walked .before in
+    let p = placed .before .before .before .pre in
+    let w = walked .walk in
+    let end = placed .before .page-end .ensures in
+    let from = placed .page-at .ensures in
+    let told = w .ensures .1 in (
       c .judge .ensures
-          ∙ page-judged _ _ _ _ _ _ (c .before .before .before .before .page-end .ensures) (c .before .before .before .page-at .ensures) (w .result) _ _ _ (w .ensures .0) (w .ensures .1 .0) (w .ensures .1 .1 .1) (p .0) (p .1) (p .2),
-      key-after _ _ _ _ _ _ (c .before .before .before .before .page-end .ensures) (c .before .before .before .page-at .ensures) (w .result) _ (w .ensures .1 .1 .0) (p .1),
+          ∙ page-judged _ _ _ _ _ _ end from (w .result) _ _ _ (w .ensures .0) (told .0) (told .1 .1) (p .0) (p .1) (p .2),
+      key-after _ _ _ _ _ _ end from (w .result) _ (told .1 .0) (p .1),
     )
 
 pub check-page-spec : {M : Type 1} → statement M
 check-page-spec =
-    tie.close (tie.spec page-end-requires page-at-requires walk-requires judge-requires returns)
+    tie.close (tie.spec (λ c κs. search needs) (λ c κs. search needs) (λ c κs. search needs) (λ c κs. search needs) returns)

@@ -8,18 +8,6 @@ use Rattle.encoding_header.proofs.Laws.{met, failed}
 use Rattle.encoding_header.proofs.table_right.Statement.{statement}
 use Rattle.encoding_header.proofs.table_right.Tie as tie
 
-cast-within : tie.Need-cast-within
-cast-within c = search needs
-
-cast-within-2 : tie.Need-cast-within-2
-cast-within-2 c = search needs
-
-cast-within-3 : tie.Need-cast-within-3
-cast-within-3 c = search needs
-
-within-requires : tie.Need-within-requires
-within-requires c κs = search needs
-
 returns : tie.Need-returns
 unfolding tableRight
 returns c = sym (failed _ (sym (c .before .within .ensures) ∙ not-true _ (c .if1 .taken)))
@@ -27,14 +15,16 @@ returns c = sym (failed _ (sym (c .before .within .ensures) ∙ not-true _ (c .i
 returns-2 : tie.Need-returns-2
 unfolding tableRight
 returns-2 c =
-    sym (met (sym (c .before .before .before .within .ensures) ∙ not-false _ (c .before .before .if1 .left)) (failed _ (ap not (eq-eqb _ 0 (c .if2 .taken)))))
+    let sized = c .before .before in
+    sym (met (sym (sized .before .within .ensures) ∙ not-false _ (sized .if1 .left)) (failed _ (ap not (eq-eqb _ 0 (c .if2 .taken)))))
 
 returns-3 : tie.Need-returns-3
 unfolding tableRight
 returns-3 c =
-    sym (met (sym (c .before .before .before .before .within .ensures) ∙ not-false _ (c .before .before .before .if1 .left)) (met (ap not (ne-eqb _ 0 (c .before .if2 .left))) refl))
+    let sized = c .before .before .before in
+    sym (met (sym (sized .before .within .ensures) ∙ not-false _ (sized .if1 .left)) (met (ap not (ne-eqb _ 0 (c .before .if2 .left))) refl))
 
 pub table-right-spec : {M : Type 1} → statement M
 table-right-spec =
     tie.close
-    (tie.spec cast-within cast-within-2 cast-within-3 within-requires returns returns-2 returns-3)
+    (tie.spec (λ c. search needs) (λ c. search needs) (λ c. search needs) (λ c κs. search needs) returns returns-2 returns-3)

@@ -7,18 +7,9 @@ use Rattle.encoding_lookup.specs.Lookup.{contentOutcome}
 use Rattle.encoding_lookup.proofs.content_at.Statement.{statement}
 use Rattle.encoding_lookup.proofs.content_at.Tie as tie
 
-byte-requires : tie.Need-byte-requires
-byte-requires c κs = search needs
-
-cast-keys : tie.Need-cast-keys
-cast-keys c = search needs
-
 add-big : tie.Need-add-big
 unfolding entrySize
 add-big c = omega (arith, c .before .before .pre)
-
-big-requires : tie.Need-big-requires
-big-requires c κs = search needs
 
 add-t8 : tie.Need-add-t8
 unfolding entrySize
@@ -28,21 +19,16 @@ add-t9 : tie.Need-add-t9
 unfolding entrySize
 add-t9 c = omega (arith, c .before .before .before .pre)
 
-cast-t10 : tie.Need-cast-t10
-cast-t10 c = search needs
-
 add-t11 : tie.Need-add-t11
 unfolding entrySize
 add-t11 c = omega (arith, c .before .before .before .before .pre)
 
-cast-t12 : tie.Need-cast-t12
-cast-t12 c = search needs
-
-cast-t13 : tie.Need-cast-t13
-cast-t13 c = search needs
-
 mul-t14 : tie.Need-mul-t14
-mul-t14 c = omega (arith, mul-le-mul {n₁ = c .before .before .before .byte .result} {m₁ = c .before .before .before .before .before .args .h .encoding .«key_size»} {n₂ = 255} {m₂ = 255} (omega arith) (omega arith))
+mul-t14 c =
+    let read = c .before .before .before in
+    let keys = read .byte .result in
+    let size = read .before .before .args .h .encoding .«key_size» in
+    omega (arith, mul-le-mul {n₁ = keys} {m₁ = size} {n₂ = 255} {m₂ = 255} (omega arith) (omega arith))
 
 returns : tie.Need-returns
 unfolding contentOutcome
@@ -52,15 +38,15 @@ pub content-at-spec : {M : Type 1} → statement M
 content-at-spec =
     tie.close
     (tie.spec
-    byte-requires
-    cast-keys
+    (λ c κs. search needs)
+    (λ c. search needs)
     add-big
-    big-requires
+    (λ c κs. search needs)
     add-t8
     add-t9
-    cast-t10
+    (λ c. search needs)
     add-t11
-    cast-t12
-    cast-t13
+    (λ c. search needs)
+    (λ c. search needs)
     mul-t14
     returns)

@@ -8,31 +8,24 @@ use Rattle.encoding_lookup.specs.Lookup.{specTold, specLookup, specOutco
 use Rattle.encoding_lookup.proofs.find_spec.Statement.{statement}
 use Rattle.encoding_lookup.proofs.find_spec.Tie as tie
 
-open-requires : tie.Need-open-requires
-open-requires c κs = search needs
-
-enum-known-r : tie.Need-enum-known-r
-enum-known-r c = search needs
-
-enum-known-h : tie.Need-enum-known-h
-enum-known-h c = search needs
-
-spec-at-requires : tie.Need-spec-at-requires
-spec-at-requires c κs = search needs
-
 returns : tie.Need-returns
 unfolding specLookup specOutcome
-returns c = let s = c .before .before .before .before .before .args .file .now in
-    let o = c .before .before .before .«open» in
+returns c =
+    let opened = c .before .before .before in
+    let s = opened .before .before .args .file .now in
+    let o = opened .«open» in
     sym (after-said _ (refused-header (opening s) (headerOf s) (o .result) (o .ensures) (c .before .r .given .1)))
 
 returns-2 : tie.Need-returns-2
 unfolding specLookup
-returns-2 c = let s = c .before .before .before .before .before .before .args .file .now in
-    let o = c .before .before .before .before .«open» in
+returns-2 c =
+    let opened = c .before .before .before .before in
+    let a = opened .before .before .args in
+    let s = a .file .now in
+    let o = opened .«open» in
     let i = passed-header (opening s) _ (headerOf s) (o .result) (o .ensures) (c .before .before .h .given .1) in
-    c .spec-at .ensures ∙ ap (λ h. specTold s h (c .before .before .before .before .before .before .args .number)) (i .1) ∙ sym (after-quiet _ (i .0))
+    c .spec-at .ensures ∙ ap (λ h. specTold s h (a .number)) (i .1) ∙ sym (after-quiet _ (i .0))
 
 pub find-spec-spec : {M : Type 1} → statement M
 find-spec-spec =
-    tie.close (tie.spec open-requires enum-known-r enum-known-h spec-at-requires returns returns-2)
+    tie.close (tie.spec (λ c κs. search needs) (λ c. search needs) (λ c. search needs) (λ c κs. search needs) returns returns-2)

@@ -10,24 +10,6 @@ use Rattle.encoding_lookup.proofs.Inside.{spec-place, spec-nowhere}
 use Rattle.encoding_lookup.proofs.spec_string.Statement.{statement}
 use Rattle.encoding_lookup.proofs.spec_string.Tie as tie
 
-open-requires : tie.Need-open-requires
-open-requires c κs = search needs
-
-enum-told : tie.Need-enum-told
-enum-told c = search needs
-
-part-requires : tie.Need-part-requires
-part-requires c κs = search needs
-
-enum-known-h : tie.Need-enum-known-h
-enum-known-h c = search needs
-
-spec-table-requires : tie.Need-spec-table-requires
-spec-table-requires c κs = search needs
-
-string-requires : tie.Need-string-requires
-string-requires c κs = search needs
-
 returns : tie.Need-returns
 unfolding specString partAfter
 returns c =
@@ -56,11 +38,11 @@ pub spec-string-spec : {M : Type 1} → statement M
 spec-string-spec =
     tie.close
     (tie.spec
-    open-requires
-    enum-told
-    part-requires
-    enum-known-h
-    spec-table-requires
-    string-requires
+    (λ c κs. search needs)
+    (λ c. search needs)
+    (λ c κs. search needs)
+    (λ c. search needs)
+    (λ c κs. search needs)
+    (λ c κs. search needs)
     returns
     returns-2)

@@ -3,47 +3,19 @@ use native.Mathlib.Nat.{mul-le-mul}
 use native.Mathlib.Omega.{arith}
 use borrow.Author.Needs.{needs}
 use Rattle.encoding_page.specs.Entries.{entrySize}
+use Prim.Native.Nat.{_*_, _≤_}
 use Rattle.encoding_page.proofs.entry_size.Statement.{statement}
 use Rattle.encoding_page.proofs.entry_size.Tie as tie
 
-enum-told : tie.Need-enum-told
-enum-told c = search needs
-
-byte-requires : tie.Need-byte-requires
-byte-requires c κs = search needs
-
-cast-keys : tie.Need-cast-keys
-cast-keys c = search needs
-
-cast-keys-2 : tie.Need-cast-keys-2
-cast-keys-2 c = search needs
+-- the keys of a content entry
+keys-most : (k : tie.After-struct-known) → k .before .byte .result * k .before .before .before .before .before .args .h .encoding .«key_size» ≤ 255 * 255
+keys-most k = mul-le-mul {n₂ = 255} {m₂ = 255} (omega arith) (omega arith)
 
 mul-keys : tie.Need-mul-keys
-mul-keys c = omega (arith, mul-le-mul {n₁ = c .before .byte .result} {m₁ = c .before .before .before .before .before .args .h .encoding .«key_size»} {n₂ = 255} {m₂ = 255} (omega arith) (omega arith))
-
-add-result : tie.Need-add-result
-add-result c = search needs
-
-cast-result : tie.Need-cast-result
-cast-result c = search needs
-
-add-result-2 : tie.Need-add-result-2
-add-result-2 c = search needs
+mul-keys c = omega (arith, keys-most c)
 
 add-result-3 : tie.Need-add-result-3
-add-result-3 c = omega (arith, mul-le-mul {n₁ = c .before .before .byte .result} {m₁ = c .before .before .before .before .before .before .args .h .encoding .«key_size»} {n₂ = 255} {m₂ = 255} (omega arith) (omega arith))
-
-enum-told-2 : tie.Need-enum-told-2
-enum-told-2 c = search needs
-
-cast-result-2 : tie.Need-cast-result-2
-cast-result-2 c = search needs
-
-add-result-4 : tie.Need-add-result-4
-add-result-4 c = search needs
-
-add-result-5 : tie.Need-add-result-5
-add-result-5 c = search needs
+add-result-3 c = omega (arith, keys-most (c .before))
 
 returns : tie.Need-returns
 unfolding entrySize
@@ -57,18 +29,18 @@ pub entry-size-spec : {M : Type 1} → statement M
 entry-size-spec =
     tie.close
     (tie.spec
-    enum-told
-    byte-requires
-    cast-keys
-    cast-keys-2
+    (λ c. search needs)
+    (λ c κs. search needs)
+    (λ c. search needs)
+    (λ c. search needs)
     mul-keys
-    add-result
-    cast-result
-    add-result-2
+    (λ c. search needs)
+    (λ c. search needs)
+    (λ c. search needs)
     add-result-3
-    enum-told-2
-    cast-result-2
-    add-result-4
-    add-result-5
+    (λ c. search needs)
+    (λ c. search needs)
+    (λ c. search needs)
+    (λ c. search needs)
     returns
     returns-2)

@@ -1,11 +1,14 @@
 -- `encoding_page::find`: the entries passed have another key.
-use mathlib.Core.Path.{sym, _∙_}
-use Prim.Native.Nat.{_-_}
+use mathlib.Core.Path.{_≡_, sym, ap, ap₂, _∙_}
+use Prim.Native.Nat.{_+_, _-_}
 use native.Mathlib.Omega.{arith}
 use borrow.Author.Needs.{needs}
 use borrow.Author.Tests.{not-true, not-false}
-use Rattle.encoding_page.specs.Entries.{keyAt}
-use Rattle.encoding_page.proofs.Laws.{found-inside, end-no-entry, key-inside, entry-inside, next-less, Searching, searching-first, search-found, searching-next, search-end}
+use Rattle.parts.specs.Part.{partAt}
+use Rattle.encoding_page.specs.Entries.{keyAt, ended}
+use Rattle.encoding_page.proofs.Laws.{found-inside, end-no-entry, key-inside, entry-inside, next-less, Searching}
+use Rattle.encoding_page.proofs.Laws.{searching-first, search-found, searching-next, search-end}
+use mathlib.Core.Bool.{false}
 use Rattle.encoding_page.proofs.find.Statement.{statement}
 use Rattle.encoding_page.proofs.find.Tie as tie
 
@@ -15,58 +18,69 @@ Inv-loop file h kind end from key size at₀ at = Searching file h kind end from
 abbrev μ-loop : tie.MeasureT-loop
 μ-loop file h kind end from key size at₀ at = end - at
 
-key-size-requires : tie.Need-key-size-requires Inv-loop μ-loop
-key-size-requires c κs = search needs
+-- ---- an entry
 
-cast-size : tie.Need-cast-size Inv-loop μ-loop
-cast-size c = search needs
+abbrev Entry : Type 0
+Entry = tie.Then1 Inv-loop μ-loop
 
-next-requires : tie.Need-next-requires Inv-loop μ-loop
-next-requires c κs = search needs
+abbrev loop-at : Entry → tie.At-loop Inv-loop μ-loop
+loop-at e = e .before .before
+
+abbrev start-at : Entry → tie.Start Inv-loop μ-loop
+start-at e = loop-at e .before .before .before .before .before
+
+not-ended : (e : Entry)
+    → let a = start-at e .args in
+    ended (a .file .now) (a .h) (a .kind) (a .end) (loop-at e .loop .at) ≡ false
+not-ended e = sym (e .before .ended .ensures) ∙ not-true _ (e .if1 .taken)
+
+key-is : (p : tie.After-part Inv-loop μ-loop)
+    → let e = p .before .before in
+    let a = start-at e .args in
+    p .part .result .now ≡ keyAt (a .file .now) (a .h) (a .kind) (loop-at e .loop .at)
+unfolding keyAt
+key-is p = p .part .ensures .0 ∙ ap₂ (partAt _) (ap (_+_ _) (p .before .key-offset .ensures)) (loop-at (p .before .before) .before .before .key-size .ensures)
 
 loop-holds : tie.Need-loop-holds Inv-loop μ-loop
 loop-holds c = searching-first _ _ _ _ _ _ _ (c .next .ensures)
 
-ended-requires : tie.Need-ended-requires Inv-loop μ-loop
-ended-requires c κs = search needs
-
-key-offset-requires : tie.Need-key-offset-requires Inv-loop μ-loop
-key-offset-requires c κs = search needs
-
 add-part : tie.Need-add-part Inv-loop μ-loop
-add-part c = omega (arith, c .key-offset .ensures, key-inside (c .before .before .before .before .before .before .before .before .args .file .now) (c .before .before .before .before .before .before .before .before .args .h) (c .before .before .before .before .before .before .before .before .args .kind) (c .before .before .before .loop .at), entry-inside _ _ _ _ _ (sym (c .before .before .ended .ensures) ∙ not-true _ (c .before .if1 .taken)))
-
-part-requires : tie.Need-part-requires Inv-loop μ-loop
-part-requires c κs = search needs
-
-equal-requires : tie.Need-equal-requires Inv-loop μ-loop
-equal-requires c κs = search needs
+add-part c =
+    let e = c .before in
+    let a = start-at e .args in
+    let key = key-inside (a .file .now) (a .h) (a .kind) (loop-at e .loop .at) in
+    omega (arith, c .key-offset .ensures, key, entry-inside _ _ _ _ _ (not-ended e))
 
 returns : tie.Need-returns Inv-loop μ-loop
-unfolding keyAt
-returns c = let t = sym (c .before .before .before .before .before .ended .ensures) ∙ not-true _ (c .before .before .before .before .if1 .taken) in (
-  search-found _ _ _ _ _ _ _ (c .before .before .before .before .before .before .loop .inv) _ t (c .before .before .part .ensures .0 ∙ rw (c .before .before .before .key-offset .ensures, c .before .before .before .before .before .before .before .before .key-size .ensures)) (sym (c .before .equal .ensures) ∙ c .if2 .taken),
-  found-inside _ _ _ _ _ t,
-)
-
-entry-size-requires : tie.Need-entry-size-requires Inv-loop μ-loop
-entry-size-requires c κs = search needs
+returns c =
+    let compared = c .before in
+    let e = compared .before .before .before in (
+      search-found _ _ _ _ _ _ _ (loop-at e .loop .inv) _ (not-ended e) (key-is (compared .before)) (sym (compared .equal .ensures) ∙ c .if2 .taken),
+      found-inside _ _ _ _ _ (not-ended e),
+    )
 
 add-next : tie.Need-add-next Inv-loop μ-loop
-add-next c = omega (arith, c .entry-size .ensures, entry-inside _ _ _ _ _ (sym (c .before .before .before .before .before .before .ended .ensures) ∙ not-true _ (c .before .before .before .before .before .if1 .taken)))
-
-next-requires-2 : tie.Need-next-requires-2 Inv-loop μ-loop
-next-requires-2 c κs = search needs
+add-next c =
+    let e = c .before .before .before .before .before in
+    omega (arith, c .entry-size .ensures, entry-inside _ _ _ _ _ (not-ended e))
 
 loop-less : tie.Need-loop-less Inv-loop μ-loop
-loop-less c = next-less _ _ _ _ _ _ _ (sym (c .before .before .before .before .before .before .before .ended .ensures) ∙ not-true _ (c .before .before .before .before .before .before .if1 .taken)) (c .before .entry-size .ensures) (c .next2 .ensures)
+loop-less c =
+    let e = c .before .before .before .before .before .before in
+    next-less _ _ _ _ _ _ _ (not-ended e) (c .before .entry-size .ensures) (c .next2 .ensures)
 
 loop-again : tie.Need-loop-again Inv-loop μ-loop
-unfolding keyAt
-loop-again c = searching-next _ _ _ _ _ _ _ (c .before .before .before .before .before .before .before .before .loop .inv) _ _ (sym (c .before .before .before .before .before .before .before .ended .ensures) ∙ not-true _ (c .before .before .before .before .before .before .if1 .taken)) (c .before .before .before .before .part .ensures .0 ∙ rw (c .before .before .before .before .before .key-offset .ensures, c .before .before .before .before .before .before .before .before .before .before .key-size .ensures)) (sym (c .before .before .before .equal .ensures) ∙ c .before .before .if2 .left) (c .next2 .ensures ∙ rw (c .before .entry-size .ensures))
+loop-again c =
+    let other = c .before .before in
+    let p = other .before .before in
+    let e = p .before .before in
+    let differs = sym (other .before .equal .ensures) ∙ other .if2 .left in
+    searching-next _ _ _ _ _ _ _ (loop-at e .loop .inv) _ _ (not-ended e) (key-is p) differs (c .next2 .ensures ∙ rw (c .before .entry-size .ensures))
 
 returns-2 : tie.Need-returns-2 Inv-loop μ-loop
-returns-2 c = (search-end _ _ _ _ _ _ _ (c .before .before .loop .inv) (sym (c .before .ended .ensures) ∙ not-false _ (c .if1 .left)), λ x q. absurd (end-no-entry _ x q))
+returns-2 c =
+    let over = sym (c .before .ended .ensures) ∙ not-false _ (c .if1 .left) in
+    (search-end _ _ _ _ _ _ _ (c .before .before .loop .inv) over, λ x q. absurd (end-no-entry _ x q))
 
 pub find-spec : {M : Type 1} → statement M
 find-spec =
@@ -74,19 +88,19 @@ find-spec =
     (tie.spec
     Inv-loop
     μ-loop
-    key-size-requires
-    cast-size
-    next-requires
+    (λ c κs. search needs)
+    (λ c. search needs)
+    (λ c κs. search needs)
     loop-holds
-    ended-requires
-    key-offset-requires
+    (λ c κs. search needs)
+    (λ c κs. search needs)
     add-part
-    part-requires
-    equal-requires
+    (λ c κs. search needs)
+    (λ c κs. search needs)
     returns
-    entry-size-requires
+    (λ c κs. search needs)
     add-next
-    next-requires-2
+    (λ c κs. search needs)
     loop-less
     loop-again
     returns-2)

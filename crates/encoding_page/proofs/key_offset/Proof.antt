@@ -4,15 +4,6 @@ use Rattle.encoding_page.specs.Entries.{keyOffset}
 use Rattle.encoding_page.proofs.key_offset.Statement.{statement}
 use Rattle.encoding_page.proofs.key_offset.Tie as tie
 
-enum-told : tie.Need-enum-told
-enum-told c = search needs
-
-add-result : tie.Need-add-result
-add-result c = search needs
-
-enum-told-2 : tie.Need-enum-told-2
-enum-told-2 c = search needs
-
 returns : tie.Need-returns
 unfolding keyOffset
 returns c = rw (c .enum-told .given .1)
@@ -22,4 +13,4 @@ unfolding keyOffset
 returns-2 c = rw (c .enum-told2 .given .1)
 
 pub key-offset-spec : {M : Type 1} → statement M
-key-offset-spec = tie.close (tie.spec enum-told add-result enum-told-2 returns returns-2)
+key-offset-spec = tie.close (tie.spec (λ c. search needs) (λ c. search needs) (λ c. search needs) returns returns-2)

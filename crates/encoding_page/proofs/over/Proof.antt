@@ -6,15 +6,6 @@ use Rattle.encoding_page.proofs.Laws.{content-over, content-full}
 use Rattle.encoding_page.proofs.over.Statement.{statement}
 use Rattle.encoding_page.proofs.over.Tie as tie
 
-enum-told : tie.Need-enum-told
-enum-told c = search needs
-
-byte-requires : tie.Need-byte-requires
-byte-requires c κs = search needs
-
-enum-told-2 : tie.Need-enum-told-2
-enum-told-2 c = search needs
-
 returns : tie.Need-returns
 returns c = content-over _ _ _ _ _ (c .before .before .enum-told .given .1) (omega (arith, c .before .if1 .taken)) (c .byte .ensures)
 
@@ -26,4 +17,4 @@ unfolding overEnd
 returns-3 c = rw (c .enum-told2 .given .1)
 
 pub over-spec : {M : Type 1} → statement M
-over-spec = tie.close (tie.spec enum-told byte-requires enum-told-2 returns returns-2 returns-3)
+over-spec = tie.close (tie.spec (λ c. search needs) (λ c κs. search needs) (λ c. search needs) returns returns-2 returns-3)

@@ -4,12 +4,6 @@ use Rattle.encoding_page.specs.Entries.{specKnown}
 use Rattle.encoding_page.proofs.spec_known.Statement.{statement}
 use Rattle.encoding_page.proofs.spec_known.Tie as tie
 
-enum-told : tie.Need-enum-told
-enum-told c = search needs
-
-enum-told-2 : tie.Need-enum-told-2
-enum-told-2 c = search needs
-
 spec-number-requires : tie.Need-spec-number-requires
 spec-number-requires c κs = rw (c .enum-told2 .given .1) at (c .before .before .before .pre)
 
@@ -22,4 +16,4 @@ unfolding specKnown
 returns-2 c = rw (c .before .enum-told2 .given .1, ← c .spec-number .ensures)
 
 pub spec-known-spec : {M : Type 1} → statement M
-spec-known-spec = tie.close (tie.spec enum-told enum-told-2 spec-number-requires returns returns-2)
+spec-known-spec = tie.close (tie.spec (λ c. search needs) (λ c. search needs) spec-number-requires returns returns-2)

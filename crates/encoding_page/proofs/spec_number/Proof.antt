@@ -4,19 +4,13 @@ use Rattle.encoding_page.specs.Entries.{entrySize, specNumber}
 use Rattle.encoding_page.proofs.spec_number.Statement.{statement}
 use Rattle.encoding_page.proofs.spec_number.Tie as tie
 
-cast-big : tie.Need-cast-big
-cast-big c = search needs
-
 add-big : tie.Need-add-big
 unfolding entrySize
 add-big c = search needs
-
-big-requires : tie.Need-big-requires
-big-requires c κs = search needs
 
 returns : tie.Need-returns
 unfolding specNumber
 returns c = c .big .ensures
 
 pub spec-number-spec : {M : Type 1} → statement M
-spec-number-spec = tie.close (tie.spec cast-big add-big big-requires returns)
+spec-number-spec = tie.close (tie.spec (λ c. search needs) add-big (λ c κs. search needs) returns)

@@ -7,48 +7,37 @@ use Rattle.encoding_page.proofs.Laws.{key-inside, entry-inside, starts-
 use Rattle.encoding_page.proofs.starts_with.Statement.{statement}
 use Rattle.encoding_page.proofs.starts_with.Tie as tie
 
-next-requires : tie.Need-next-requires
-next-requires c κs = search needs
-
-ended-requires : tie.Need-ended-requires
-ended-requires c κs = search needs
-
 returns : tie.Need-returns
 returns c = starts-none _ _ _ _ _ _ (c .before .before .next .ensures) _ (sym (c .before .ended .ensures) ∙ c .if1 .taken)
 
-key-offset-requires : tie.Need-key-offset-requires
-key-offset-requires c κs = search needs
-
 add-part : tie.Need-add-part
-add-part c = omega (arith, c .key-offset .ensures, key-inside (c .before .before .before .before .before .before .args .file .now) (c .before .before .before .before .before .before .args .h) (c .before .before .before .before .before .before .args .kind) (c .before .before .before .next .result), entry-inside _ _ _ _ _ (sym (c .before .before .ended .ensures) ∙ c .before .if1 .left))
-
-key-size-requires : tie.Need-key-size-requires
-key-size-requires c κs = search needs
-
-cast-part : tie.Need-cast-part
-cast-part c = search needs
-
-part-requires : tie.Need-part-requires
-part-requires c κs = search needs
-
-equal-requires : tie.Need-equal-requires
-equal-requires c κs = search needs
+add-part c =
+    let next = c .before .before .before in
+    let a = next .before .before .before .args in
+    let key = key-inside (a .file .now) (a .h) (a .kind) (next .next .result) in
+    let entry = sym (c .before .before .ended .ensures) ∙ c .before .if1 .left in
+    omega (arith, c .key-offset .ensures, key, entry-inside _ _ _ _ _ entry)
 
 returns-2 : tie.Need-returns-2
 unfolding keyAt
-returns-2 c = starts-first _ _ _ _ _ _ (c .before .before .before .before .before .before .next .ensures) _ _ _ (sym (c .before .before .before .before .before .ended .ensures) ∙ c .before .before .before .before .if1 .left) (c .before .part .ensures .0 ∙ rw (c .before .before .before .key-offset .ensures, c .before .before .key-size .ensures)) (c .equal .ensures)
+returns-2 c =
+    let sized = c .before .before in
+    let one = sized .before .before in
+    let entry = sym (one .before .ended .ensures) ∙ one .if1 .left in
+    starts-first _ _ _ _ _ _ (one .before .before .next .ensures) _ _ _ entry
+    (c .before .part .ensures .0 ∙ rw (sized .before .key-offset .ensures, sized .key-size .ensures)) (c .equal .ensures)
 
 pub starts-with-spec : {M : Type 1} → statement M
 starts-with-spec =
     tie.close
     (tie.spec
-    next-requires
-    ended-requires
+    (λ c κs. search needs)
+    (λ c κs. search needs)
     returns
-    key-offset-requires
+    (λ c κs. search needs)
     add-part
-    key-size-requires
-    cast-part
-    part-requires
-    equal-requires
+    (λ c κs. search needs)
+    (λ c. search needs)
+    (λ c κs. search needs)
+    (λ c κs. search needs)
     returns-2)

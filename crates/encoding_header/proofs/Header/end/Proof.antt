@@ -7,12 +7,6 @@ use Rattle.encoding_header.proofs.Bounds.{TypedHeader, index-at-most, s
 use Rattle.encoding_header.proofs.Header.end.Statement.{statement}
 use Rattle.encoding_header.proofs.Header.end.Tie as tie
 
-index-at-requires : tie.Need-index-at-requires
-index-at-requires c κs = search needs
-
-size-requires : tie.Need-size-requires
-size-requires c κs = search needs
-
 add-result : tie.Need-add-result
 add-result c =
     let h = c .before .before .args .self in
@@ -24,4 +18,4 @@ unfolding endOf
 returns c = rw (c .size .ensures, c .before .index-at .ensures)
 
 pub end-spec : {M : Type 1} → statement M
-end-spec = tie.close (tie.spec index-at-requires size-requires add-result returns)
+end-spec = tie.close (tie.spec (λ c κs. search needs) (λ c κs. search needs) add-result returns)

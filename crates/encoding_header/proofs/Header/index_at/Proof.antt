@@ -6,21 +6,6 @@ use Rattle.encoding_header.proofs.Bounds.{Typed, size-most}
 use Rattle.encoding_header.proofs.Header.index_at.Statement.{statement}
 use Rattle.encoding_header.proofs.Header.index_at.Tie as tie
 
-cast-content-at : tie.Need-cast-content-at
-cast-content-at c = search needs
-
-add-content-at : tie.Need-add-content-at
-add-content-at c = search needs
-
-enum-told : tie.Need-enum-told
-enum-told c = search needs
-
-enum-told-2 : tie.Need-enum-told-2
-enum-told-2 c = search needs
-
-size-requires : tie.Need-size-requires
-size-requires c κs = search needs
-
 add-result : tie.Need-add-result
 add-result c =
     let typed : Typed (c .before .before .before .before .args .self .content) = omega arith in
@@ -38,11 +23,11 @@ pub index-at-spec : {M : Type 1} → statement M
 index-at-spec =
     tie.close
     (tie.spec
-    cast-content-at
-    add-content-at
-    enum-told
-    enum-told-2
-    size-requires
+    (λ c. search needs)
+    (λ c. search needs)
+    (λ c. search needs)
+    (λ c. search needs)
+    (λ c κs. search needs)
     add-result
     returns
     returns-2)

@@ -7,26 +7,19 @@ use Rattle.encoding_header.proofs.Bounds.{TypedHeader, rows-most, table
 use Rattle.encoding_header.proofs.Header.row_at.Statement.{statement}
 use Rattle.encoding_header.proofs.Header.row_at.Tie as tie
 
-index-at-requires : tie.Need-index-at-requires
-index-at-requires c κs = search needs
-
-table-requires : tie.Need-table-requires
-table-requires c κs = search needs
-
-row-size-requires : tie.Need-row-size-requires
-row-size-requires c κs = search needs
-
 mul-result : tie.Need-mul-result
 mul-result c =
     let a = c .before .before .before .args in
     let typed : TypedHeader (a .self) = omega arith in
-    omega (arith, rows-most (table-typed typed (a .kind)) (a .page) _ (omega arith) (c .row-size .ensures ∙ ap rowSize (c .before .table .ensures)), index-at-most typed (a .kind), c .before .before .index-at .ensures)
+    let rows = rows-most (table-typed typed (a .kind)) (a .page) _ (omega arith) (c .row-size .ensures ∙ ap rowSize (c .before .table .ensures)) in
+    omega (arith, rows, index-at-most typed (a .kind), c .before .before .index-at .ensures)
 
 add-result : tie.Need-add-result
 add-result c =
     let a = c .before .before .before .args in
     let typed : TypedHeader (a .self) = omega arith in
-    omega (arith, rows-most (table-typed typed (a .kind)) (a .page) _ (omega arith) (c .row-size .ensures ∙ ap rowSize (c .before .table .ensures)), index-at-most typed (a .kind), c .before .before .index-at .ensures)
+    let rows = rows-most (table-typed typed (a .kind)) (a .page) _ (omega arith) (c .row-size .ensures ∙ ap rowSize (c .before .table .ensures)) in
+    omega (arith, rows, index-at-most typed (a .kind), c .before .before .index-at .ensures)
 
 returns : tie.Need-returns
 unfolding rowAt
@@ -35,4 +28,4 @@ returns c = rw (c .row-size .ensures, c .before .table .ensures, c .before .befo
 pub row-at-spec : {M : Type 1} → statement M
 row-at-spec =
     tie.close
-    (tie.spec index-at-requires table-requires row-size-requires mul-result add-result returns)
+    (tie.spec (λ c κs. search needs) (λ c κs. search needs) (λ c κs. search needs) mul-result add-result returns)

@@ -6,12 +6,6 @@ use Rattle.encoding_header.proofs.Bounds.{Typed, rows-most}
 use Rattle.encoding_header.proofs.Table.index_size.Statement.{statement}
 use Rattle.encoding_header.proofs.Table.index_size.Tie as tie
 
-cast-result : tie.Need-cast-result
-cast-result c = search needs
-
-row-size-requires : tie.Need-row-size-requires
-row-size-requires c κs = search needs
-
 mul-result : tie.Need-mul-result
 mul-result c =
     let t = c .before .before .args .self in
@@ -23,4 +17,4 @@ unfolding indexSize
 returns c = rw (c .row-size .ensures)
 
 pub index-size-spec : {M : Type 1} → statement M
-index-size-spec = tie.close (tie.spec cast-result row-size-requires mul-result returns)
+index-size-spec = tie.close (tie.spec (λ c. search needs) (λ c κs. search needs) mul-result returns)

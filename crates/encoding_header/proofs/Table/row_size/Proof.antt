@@ -5,15 +5,9 @@ use Rattle.encoding_header.specs.Header.{rowSize}
 use Rattle.encoding_header.proofs.Table.row_size.Statement.{statement}
 use Rattle.encoding_header.proofs.Table.row_size.Tie as tie
 
-cast-result : tie.Need-cast-result
-cast-result c = search needs
-
-add-result : tie.Need-add-result
-add-result c = search needs
-
 returns : tie.Need-returns
 unfolding rowSize
 returns c = refl
 
 pub row-size-spec : {M : Type 1} → statement M
-row-size-spec = tie.close (tie.spec cast-result add-result returns)
+row-size-spec = tie.close (tie.spec (λ c. search needs) (λ c. search needs) returns)

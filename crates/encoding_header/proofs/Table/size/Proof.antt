@@ -6,15 +6,6 @@ use Rattle.encoding_header.proofs.Bounds.{Typed, index-most, bytes-most
 use Rattle.encoding_header.proofs.Table.size.Statement.{statement}
 use Rattle.encoding_header.proofs.Table.size.Tie as tie
 
-index-size-requires : tie.Need-index-size-requires
-index-size-requires c κs = search needs
-
-cast-result : tie.Need-cast-result
-cast-result c = search needs
-
-page-size-requires : tie.Need-page-size-requires
-page-size-requires c κs = search needs
-
 mul-result : tie.Need-mul-result
 mul-result c =
     let t = c .before .before .before .args .self in
@@ -34,4 +25,4 @@ returns c = rw (c .page-size .ensures, c .before .before .index-size .ensures)
 pub size-spec : {M : Type 1} → statement M
 size-spec =
     tie.close
-    (tie.spec index-size-requires cast-result page-size-requires mul-result add-result returns)
+    (tie.spec (λ c κs. search needs) (λ c. search needs) (λ c κs. search needs) mul-result add-result returns)
