@@ -88,7 +88,7 @@ endOutcome s l e =
 unfoldable pub keyCheck : Layout → List ℕ → Check
 keyCheck l sought = refusedIf (not (eqb (length sought) (l .«key_length»))) index-key-length 0
 
--- The lookup: 1 to 5, 10 (rule L3), then the halving rule (rule L4).
+-- The lookup: the opening checks, 10 (rule L3), then the halving rule (rule L4).
 unfoldable pub lookupOf : List ℕ → List ℕ → Outcome
 lookupOf s sought =
     after (first (opening s) (keyCheck (layoutOf s) sought)) (endOutcome s (layoutOf s) (ended (storedIn s (layoutOf s) sought)))

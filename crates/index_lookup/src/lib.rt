@@ -125,7 +125,7 @@ fn seek(index: &[u8], l: Layout, key: &[u8]) -> Answer
     seek_on(index, l, key, page, end.compared)
 }
 
-// Looks a key up. Refusals 1 to 5, then 10; no page is checked.
+// Looks a key up. The opening checks, then 10; no page is checked.
 pub fn lookup(index: &[u8], key: &[u8]) -> Answer
     ensures { λ r. ⌜ spec.outcome r ≡ spec.lookupOf (now (index .entry)) (now (key .entry)) ⌝ }
 {
@@ -143,7 +143,7 @@ pub fn lookup(index: &[u8], key: &[u8]) -> Answer
     }
 }
 
-// The most stored keys that a lookup in an index compares. Refusals 1 to 5.
+// The most stored keys that a lookup in an index compares. The opening checks.
 pub fn bound(index: &[u8]) -> Bounded
     ensures { λ r. ⌜ spec.boundOutcome r ≡ spec.boundOf (now (index .entry)) ⌝ }
 {

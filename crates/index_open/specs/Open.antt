@@ -1,4 +1,4 @@
--- The checks 1 to 5 of an index, in their order: rules I2, I4, I16 and I29. The footer of a loose index: rule I30.
+-- The opening checks of an index, in their order: rules I2, I4, I16 and I29. The footer of a loose index: rule I30.
 use mathlib.Core.Bool.{Bool, true, false, not}
 use mathlib.Core.List.{List, [], _∷_, _++_}
 use Prim.Native.Nat.{ℕ, _+_, _-_}
@@ -59,7 +59,7 @@ footerReading s = first (shortCheck s) (footerCheck (footer s))
 abbrev pub lengthCheck : List ℕ → Check
 lengthCheck s = refusedIf (not (eqb (length s) (indexLength (layoutOf s)))) index-length 0
 
--- 1 to 5, in this order (rule I16).
+-- The opening checks, in this order (rule I16).
 unfoldable pub opening : List ℕ → Check
 opening s = first (footerReading s) (lengthCheck s)
 

@@ -1,4 +1,4 @@
-// Opening an archive index: refusals 1 to 5, and the layout that the footer tells; and whether a footer is that of a loose index.
+// Opening an archive index: the opening checks, and the layout that the footer tells; and whether a footer is that of a loose index.
 use index_layout::ENTRY_COUNT_AT;
 use index_layout::FOOTER_HASH_AT;
 use index_layout::FOOTER_SIZE;
@@ -161,7 +161,7 @@ pub fn read_footer(index: &[u8]) -> Checked
     Checked::Passed(read_layout(footer))
 }
 
-// Refusals 1 to 5, and what the footer says.
+// The opening checks, and what the footer says.
 pub fn open(index: &[u8]) -> Checked
     ensures { λ r. ⌜ spec.outcome r ≡ spec.openOutcome (now (index .entry)) ⌝ }
 {

@@ -260,7 +260,7 @@ class Index:
 
     @staticmethod
     def check(data: Data) -> CheckedIndex:
-        """Makes the full check: the opening checks (1 to 5), then page by page 6 to 9."""
+        """Makes the full check: the opening checks, then page by page 6 to 9."""
         return CheckedIndex(data)
 
     @staticmethod

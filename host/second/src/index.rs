@@ -80,7 +80,7 @@ impl Settings {
     }
 }
 
-/// The parts of a file whose footer and length are good: it passes the opening checks (1 to 5), and
+/// The parts of a file whose footer and length are good: it passes the opening checks, and
 /// the rest is as it is.
 #[derive(Clone, Copy, Debug)]
 pub struct Index<'a> {
