@@ -168,9 +168,11 @@ module _ (list : List ℕ) (l : Layout) (h : Held list l) where
     unfolding lastKeysOf lastKeys lastKeyIn
     keys-are =
         let alone = append-nil (pages list l) in
-        let held = page-held o1 [] (e ∙ ap (overlay out 0) (sym alone)) (omega (arith, ap length alone, two-room, length-append (pages list l) (lastKeys list l))) in
+        let held = page-held o1 [] (e ∙ ap (overlay out 0) (sym alone))
+        (omega (arith, ap length alone, two-room, length-append (pages list l) (lastKeys list l))) in
         parts-same _ _ 0 (l .pages)
-        (λ p a b. placed-key o1 list l p (entries-there o1 p (omega arith) (held p (omega arith))) (placedOn l p - 1) (omega (arith, some-placed p (omega arith) .1)))
+        (λ p a b. placed-key o1 list l p (entries-there o1 p (omega arith) (held p (omega arith))) (placedOn l p - 1)
+        (omega (arith, some-placed p (omega arith) .1)))
 
     after-two : o2 ≡ overlay out 0 two
     after-two =

@@ -56,7 +56,8 @@ fn unhashed_fields(l: Layout) -> [u8; FOOTER_SIZE - VERSION_AT]
 
 // The contents hash, of the last keys and the page hashes that stand in the output.
 fn write_contents_hash(l: Layout, output: &mut [u8])
-    ensures { λ _. ⌜ now (output .exit) ≡ overlay (now (output .entry)) (spec.footerAt l) (take layout.hashLength (md5 (spec.contentsOf (now (output .entry)) l))) ⌝ }
+    ensures { λ _. ⌜ now (output .exit)
+        ≡ overlay (now (output .entry)) (spec.footerAt l) (take layout.hashLength (md5 (spec.contentsOf (now (output .entry)) l))) ⌝ }
 {
     let from = l.last_key_at(Page(0));
     let at = l.page_hash_at(Page(l.pages));

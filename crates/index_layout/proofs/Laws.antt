@@ -2,7 +2,8 @@
 use mathlib.Core.Path.{_≡_, refl}
 use mathlib.Core.List.{List}
 use Prim.Native.Nat.{ℕ, suc, _+_, _-_, _*_, _/_, _^_, _≤_, _<_, min}
-use native.Mathlib.Nat.{le-trans, mul-le-mul, mul-le-mul-left, mul-le-mul-right, div-mul-le-self, div-add-mod', le-div-iff-mul-le, min-le-left, add-mul, mul-one, one-mul, suc-mul}
+use native.Mathlib.Nat.{le-trans, mul-le-mul, mul-le-mul-left, mul-le-mul-right, div-mul-le-self}
+use native.Mathlib.Nat.{div-add-mod', le-div-iff-mul-le, min-le-left, add-mul, mul-one, one-mul, suc-mul}
 use native.Mathlib.Decide.{decLt}
 use native.Mathlib.Omega.{arith}
 use lib.ListN.{take}
@@ -106,7 +107,8 @@ module _ (s : List ℕ) (at : ℕ) (bytes : (i : ℕ) → byteAt s i < 256) wher
       rw (two, two-and-four) (omega (arith, bigAt-below s bytes (at + 1 + 1) 4))
 
 -- ---- an entry's size and location
-pub entry-fits : (l : Layout) (p i at : ℕ) → at ≡ entryAt l p i → p < 2 ^ 32 → i < 2 ^ 32 → l .«key_length» < 256 → l .«offset_width» < 256 → at + l .«key_length» + 4 < 2 ^ 64
+pub entry-fits : (l : Layout) (p i at : ℕ) → at ≡ entryAt l p i → p < 2 ^ 32 → i < 2 ^ 32 → l .«key_length» < 256
+    → l .«offset_width» < 256 → at + l .«key_length» + 4 < 2 ^ 64
 unfolding entryAt entrySize
 entry-fits l p i at e hp hi hk ho =
     let small : l .«key_length» + 4 + l .«offset_width» ≤ 514 = omega arith in

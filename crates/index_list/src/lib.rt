@@ -38,7 +38,8 @@ fn fill(index: &[u8], l: Layout, output: &mut [u8])
 // Writes the list of a checked index into the output.
 pub fn list(index: &[u8], output: &mut [u8]) -> Written
     ensures { λ r. ⌜ writtenOutcome r ≡ spec.listOutcome (now (index .entry)) (length (now (output .entry))) ⌝ }
-    ensures { λ _. ⌜ now (output .exit) ≡ filled (spec.listCheck (now (index .entry)) (length (now (output .entry)))) (entries.listOf (now (index .entry))) (now (output .entry)) ⌝ }
+    ensures { λ _. ⌜ now (output .exit)
+        ≡ filled (spec.listCheck (now (index .entry)) (length (now (output .entry)))) (entries.listOf (now (index .entry))) (now (output .entry)) ⌝ }
 {
     match index::check(index) {
         Checked::Refused(r) => Written::Refused(r),

@@ -58,7 +58,8 @@ entry-laid key out o1 o2 o3 a b w size location narrow room e1 ea e2 eb e3 =
     ∙ ap (λ r. overlay out 0 (key ++ sizes ++ r)) (eb ∙ big-part w location narrow) in
     let all : length (key ++ sizes ++ locations) ≡ length key + 4 + w =
     length-append (key ++ sizes) locations ∙ omega (arith, length-append key sizes, big-length 4 size, big-length w location) in
-    three ∙ overlay-inside out 0 (key ++ sizes ++ locations) (omega (arith, all)) ∙ ap (λ n. (key ++ sizes ++ locations) ++ drop n out) (zero-add (length (key ++ sizes ++ locations)))
+    three ∙ overlay-inside out 0 (key ++ sizes ++ locations) (omega (arith, all))
+    ∙ ap (λ n. (key ++ sizes ++ locations) ++ drop n out) (zero-add (length (key ++ sizes ++ locations)))
 
 -- ---- what W bytes hold
 
@@ -72,7 +73,8 @@ archive-none w e = sym (ap (λ b. cond b 65535 0) (ne-eqb w archiveWidth e))
 
 archive-most : (w : ℕ) → mostArchive w ≤ 65535
 archive-most w =
-    by-test (eqb w archiveWidth) (λ t. omega (arith, archive-six w (eqb-true w archiveWidth t))) (λ t. omega (arith, archive-none w (eqb-false w archiveWidth t)))
+    by-test (eqb w archiveWidth) (λ t. omega (arith, archive-six w (eqb-true w archiveWidth t)))
+    (λ t. omega (arith, archive-none w (eqb-false w archiveWidth t)))
 
 pub limit-five : (w : ℕ) → w ≡ 5 → 1099511627776 ≡ 256 ^ offsetBytes w
 unfolding offsetBytes
@@ -135,7 +137,8 @@ fits s key archive offset room e =
     let e1 = first-right (settingsCheck s) _ e in
     let e2 = first-right (locationCheck (s .«offset_width») archive offset) _ e1 in
     let known = right s (not-false _ (silent-test _ settings 0 (first-left (settingsCheck s) _ e))) in
-    let placed = both (leb archive (mostArchive (s .«offset_width»))) (ltb offset (256 ^ offsetBytes (s .«offset_width»))) (not-false _ (silent-test _ settings 0 (first-left (locationCheck (s .«offset_width») archive offset) _ e1))) in
+    let placed = both (leb archive (mostArchive (s .«offset_width»))) (ltb offset (256 ^ offsetBytes (s .«offset_width»)))
+    (not-false _ (silent-test _ settings 0 (first-left (locationCheck (s .«offset_width») archive offset) _ e1))) in
     let size : length key ≡ s .«key_length» = eqb-true _ _ (not-false _ (silent-test _ index-key-length 0 (first-left (keyCheck s key) _ e2))) in
     record {
       width = known .1 .0 .1;
@@ -143,5 +146,9 @@ fits s key archive offset room e =
       bytes = ap (λ n. n + sizeWidth + s .«offset_width») size;
       holds = ltb-false room (listEntrySize s) (silent-test _ output-short 0 (first-right (keyCheck s key) (roomCheck (listEntrySize s) room) e2));
       archive-low = omega (arith, leb-true archive (mostArchive (s .«offset_width»)) (placed .0), archive-most (s .«offset_width»));
-      offset-low = omega (arith, ltb-true offset (256 ^ offsetBytes (s .«offset_width»)) (placed .1), limit-most (s .«offset_width») (known .1 .0 .0) (known .1 .0 .1));
+      offset-low = omega (
+        arith,
+        ltb-true offset (256 ^ offsetBytes (s .«offset_width»)) (placed .1),
+        limit-most (s .«offset_width») (known .1 .0 .0) (known .1 .0 .1),
+      );
     }

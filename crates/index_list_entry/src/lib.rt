@@ -119,7 +119,9 @@ pub fn put_entry(
     output: &mut [u8],
 ) -> Written
     ensures { λ r. ⌜ writtenOutcome r ≡ spec.putOutcome settings (now (key .entry)) archive offset (length (now (output .entry))) ⌝ }
-    ensures { λ _. ⌜ now (output .exit) ≡ filled (spec.putCheck settings (now (key .entry)) archive offset (length (now (output .entry)))) (spec.entryBytes (settings .«offset_width») (now (key .entry)) size (spec.locationOf archive offset)) (now (output .entry)) ⌝ }
+    ensures { λ _. ⌜ now (output .exit)
+        ≡ filled (spec.putCheck settings (now (key .entry)) archive offset (length (now (output .entry))))
+        (spec.entryBytes (settings .«offset_width») (now (key .entry)) size (spec.locationOf archive offset)) (now (output .entry)) ⌝ }
 {
     if let Verdict::Refused(r) = judge(settings, key, archive, offset, output.len()) {
         return Written::Refused(r);

@@ -27,7 +27,8 @@ use Rattle.index_open.specs.Open.{opening}
 use Rattle.index_open.proofs.Opened.{opened}
 use Rattle.index_lookup.specs.declared.Answer.{Answer}
 use Rattle.index_lookup.specs.declared.Answer.the-variants.{Absent}
-use Rattle.index_lookup.specs.Lookup.{storedIn, slotHalved, endedAt, endedOn, pageHalved, endedFrom, ended, endOutcome, keyCheck, lookupOf, mostOf, boundOf, outcome}
+use Rattle.index_lookup.specs.Lookup.{storedIn, slotHalved, endedAt, endedOn, pageHalved, endedFrom}
+use Rattle.index_lookup.specs.Lookup.{ended, endOutcome, keyCheck, lookupOf, mostOf, boundOf, outcome}
 
 -- ---- the keys that are halved over
 
@@ -80,7 +81,8 @@ module _ (s sought : List ℕ) (l : Layout) where
     unfolding outcome endOutcome endedOn endedAt storedIn
     no-slot none = rw (← e, le-ltb (h .place) (onPage l p) (rw g at none))
 
-    module _ (a : List ℕ) (at : ℕ) (t : Bool) (some : h .place < n) (f : at ≡ entryAt l p (h .place)) (k : a ≡ partAt s at (l .«key_length»)) (z : t ≡ sameBytes a sought) where
+    module _ (a : List ℕ) (at : ℕ) (t : Bool) (some : h .place < n) (f : at ≡ entryAt l p (h .place))
+        (k : a ≡ partAt s at (l .«key_length»)) (z : t ≡ sameBytes a sought) where
       same-there : isEqual (compared (keyAt s l p (h .place)) sought) ≡ t
       same-there = equal-is-same _ sought ∙ sym (rw (k, f) at z)
 
@@ -119,7 +121,8 @@ module _ (s sought : List ℕ) where
   unfolding lookupOf
   not-opened e = sym (after-said _ (first-said _ e))
 
-  pub opened-lookup : opening s ≡ silent → length sought ≡ layoutOf s .«key_length» → lookupOf s sought ≡ endOutcome s (layoutOf s) (ended (storedIn s (layoutOf s) sought))
+  pub opened-lookup : opening s ≡ silent → length sought ≡ layoutOf s .«key_length»
+      → lookupOf s sought ≡ endOutcome s (layoutOf s) (ended (storedIn s (layoutOf s) sought))
   unfolding lookupOf keyCheck
   opened-lookup e h =
       let right : not (eqb (length sought) (layoutOf s .«key_length»)) ≡ false = ap not (eq-eqb (length sought) (layoutOf s .«key_length») h) in

@@ -83,7 +83,8 @@ fn find_slot(index: &[u8], l: Layout, key: &[u8], page: Page) -> SlotEnd
 // The entry in a slot.
 fn found(index: &[u8], l: Layout, page: Page, slot: Slot, compared: u32) -> Answer
     requires { ⌜ l .«offset_width» ≤ 8 ⌝ }
-    ensures { λ r. ⌜ spec.outcome r ≡ answered (page .0 ∷ slot .0 ∷ entries.sizeAt (now (index .entry)) l (page .0) (slot .0) ∷ entries.locationAt (now (index .entry)) l (page .0) (slot .0) ∷ compared ∷ []) ⌝ }
+    ensures { λ r. ⌜ spec.outcome r ≡ answered (page .0 ∷ slot .0 ∷ entries.sizeAt (now (index .entry)) l (page .0) (slot .0)
+        ∷ entries.locationAt (now (index .entry)) l (page .0) (slot .0) ∷ compared ∷ []) ⌝ }
 {
     Answer::Found(Entry {
         page,
@@ -97,7 +98,8 @@ fn found(index: &[u8], l: Layout, page: Page, slot: Slot, compared: u32) -> Answ
 // A page's entries, after some comparisons of last keys.
 fn seek_on(index: &[u8], l: Layout, key: &[u8], page: Page, count: u32) -> Answer
     requires { ⌜ (length (now key) ≡ l .«key_length») × (l .«offset_width» ≤ 8) × (count ≤ 32) ⌝ }
-    ensures { λ r. ⌜ spec.outcome r ≡ spec.endOutcome (now (index .entry)) l (spec.endedOn (spec.storedIn (now (index .entry)) l (now (key .entry))) (page .0) count) ⌝ }
+    ensures { λ r. ⌜ spec.outcome r
+        ≡ spec.endOutcome (now (index .entry)) l (spec.endedOn (spec.storedIn (now (index .entry)) l (now (key .entry))) (page .0) count) ⌝ }
 {
     let end = find_slot(index, l, key, page);
     let slot = end.slot;

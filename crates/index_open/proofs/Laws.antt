@@ -22,7 +22,8 @@ use Rattle.index_open.specs.Open.{fieldsCheck, hashedFooter, footerHashC
 use borrow.Author.Tests.{le-ltb, ltb-false}
 
 -- eight checks, each after those before it
-pub chain : (a b c d e f g h : Check) {v1 v2 v3 v4 v5 v6 v7 v8 : Check} → v1 ≡ first silent a → v2 ≡ first v1 b → v3 ≡ first v2 c → v4 ≡ first v3 d → v5 ≡ first v4 e
+pub chain : (a b c d e f g h : Check) {v1 v2 v3 v4 v5 v6 v7 v8 : Check} → v1 ≡ first silent a → v2 ≡ first v1 b
+    → v3 ≡ first v2 c → v4 ≡ first v3 d → v5 ≡ first v4 e
     → v6 ≡ first v5 f → v7 ≡ first v6 g → v8 ≡ first v7 h → v8 ≡ first a (first b (first c (first d (first e (first f (first g h))))))
 unfolding first
 chain a b c d e f g h p1 p2 p3 p4 p5 p6 p7 p8 = rw (p8, p7, p6, p5, p4, p3, p2, p1) (simp first-assoc)
@@ -35,7 +36,8 @@ pub first-eight-is : (m bytes : List ℕ) → length m ≤ pageSize → bytes �
 first-eight-is m bytes h = first-eight-within m bytes (omega arith)
 
 -- the 20 bytes that the footer hash is of
-pub hashed-is : (f p h : List ℕ) → length f ≡ footerSize → p ≡ partAt f versionAt (footerHashAt - versionAt) → h ≡ overlay (replicate 20 0) 0 p → h ≡ hashedFooter f
+pub hashed-is : (f p h : List ℕ) → length f ≡ footerSize → p ≡ partAt f versionAt (footerHashAt - versionAt)
+    → h ≡ overlay (replicate 20 0) 0 p → h ≡ hashedFooter f
 hashed-is f p h size e o =
     let inside : 8 + 12 ≤ length f = omega arith in
     let long : length p ≡ 12 = ap length e ∙ partAt-inside f versionAt (footerHashAt - versionAt) inside in
@@ -87,7 +89,8 @@ passed-index k l m v e g =
     let a : (k ≡ silent) × (layoutValues l ≡ layoutValues m) = answered-after k (layoutValues l) (layoutValues m) (sym (ap outcome g) ∙ e) in
     (a .0, values-one l m (a .1))
 
-pub refused-index : (k : Check) (m : Layout) (v : Checked) {r : Refusal} → outcome v ≡ after k (answered (layoutValues m)) → v ≡ Refused r → k ≡ refused (r .number) (r .place)
+pub refused-index : (k : Check) (m : Layout) (v : Checked) {r : Refusal} → outcome v ≡ after k (answered (layoutValues m))
+    → v ≡ Refused r → k ≡ refused (r .number) (r .place)
 unfolding outcome
 refused-index k m v {r} e g = refusal-after k (r .number) (r .place) (layoutValues m) (sym (ap outcome g) ∙ e)
 

@@ -17,7 +17,10 @@ use Rattle.refusal.specs.Check.{silent, first}
 use Rattle.refusal.specs.Number.{index-short, footer-field, index-length}
 use Rattle.refusal.proofs.Laws.{silent-test, first-left, first-right}
 use Rattle.index_layout.specs.declared.Layout.{Layout}
-use Rattle.index_layout.specs.Layout.{pageSize, footerSize, hashLength, versionAt, reservedAt, pageKbAt, offsetWidthAt, sizeWidthAt, keyLengthAt, leastVersion, mostVersion, pageKb, leastOffsetWidth, mostOffsetWidth, sizeWidth, leastKeyLength, mostKeyLength, mostEntries, countCheck, footer, entryCount, keyLength, offsetWidth, entrySize, full, pagesFor, placedOn, onPage, pageAt, indexLength, layoutFrom, layoutOf}
+use Rattle.index_layout.specs.Layout.{pageSize, footerSize, hashLength, versionAt, reservedAt, pageKbAt, offsetWidthAt, sizeWidthAt}
+use Rattle.index_layout.specs.Layout.{keyLengthAt, leastVersion, mostVersion, pageKb, leastOffsetWidth, mostOffsetWidth, sizeWidth}
+use Rattle.index_layout.specs.Layout.{leastKeyLength, mostKeyLength, mostEntries, countCheck, footer, entryCount, keyLength, offsetWidth}
+use Rattle.index_layout.specs.Layout.{entrySize, full, pagesFor, placedOn, onPage, pageAt, indexLength, layoutFrom, layoutOf}
 use Rattle.index_open.specs.Open.{shortCheck, fieldCheck, fieldsCheckWith, fieldsCheck, footerHashCheck, footerCheck, footerReading, lengthCheck, opening}
 use Rattle.index_layout.specs.Entries.{entriesOf, entriesBy, listOf}
 use Rattle.index_layout.proofs.Laws.{on-page-placed, on-page-fits, per-page}

@@ -11,7 +11,9 @@ use Rattle.refusal.specs.Check.{Check, silent, refused, refusedIf, first}
 use Rattle.refusal.specs.Outcome.{Outcome, answered, refusal, after}
 use Rattle.refusal.specs.Number.{index-short, footer-field, footer-hash, index-length}
 use Rattle.index_layout.specs.declared.Layout.{Layout}
-use Rattle.index_layout.specs.Layout.{footerSize, versionAt, reservedAt, pageKbAt, offsetWidthAt, sizeWidthAt, keyLengthAt, hashLengthAt, footerHashAt, leastVersion, mostVersion, pageKb, leastOffsetWidth, mostOffsetWidth, sizeWidth, leastKeyLength, mostKeyLength, hashLength, countCheck, footer, entryCount, footerHash, indexLength, layoutOf}
+use Rattle.index_layout.specs.Layout.{footerSize, versionAt, reservedAt, pageKbAt, offsetWidthAt, sizeWidthAt, keyLengthAt, hashLengthAt}
+use Rattle.index_layout.specs.Layout.{footerHashAt, leastVersion, mostVersion, pageKb, leastOffsetWidth, mostOffsetWidth, sizeWidth}
+use Rattle.index_layout.specs.Layout.{leastKeyLength, mostKeyLength, hashLength, countCheck, footer, entryCount, footerHash, indexLength, layoutOf}
 use Rattle.index_open.specs.declared.Checked.{Checked}
 use Rattle.index_open.specs.declared.Checked.the-variants.{Passed, Refused}
 

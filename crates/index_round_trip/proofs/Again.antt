@@ -21,10 +21,15 @@ use Rattle.refusal.specs.Number as number
 use Rattle.refusal.specs.Number.{index-page-hash, index-padding, index-order, last-key, footer-hash}
 use Rattle.refusal.proofs.Laws.{silent-test, quiet, skip, first-left, first-right, from-each, from-silent}
 use Rattle.index_layout.specs.declared.Layout.{Layout}
-use Rattle.index_layout.specs.Layout.{pageSize, footerSize, hashLength, versionAt, reservedAt, pageKbAt, offsetWidthAt, sizeWidthAt, keyLengthAt, hashLengthAt, entryCountAt, footerHashAt, leastVersion, mostVersion, pageKb, leastOffsetWidth, mostOffsetWidth, sizeWidth, leastKeyLength, mostKeyLength, mostEntries, footer, version, footerHash, entrySize, full, placedOn, placedNumber, onPage, entryNumber, pageAt, entryAt, lastKeyAt, pageHashAt, indexLength, layoutWith, layoutFrom, layoutOf, pageOf}
+use Rattle.index_layout.specs.Layout.{pageSize, footerSize, hashLength, versionAt, reservedAt, pageKbAt, offsetWidthAt, sizeWidthAt}
+use Rattle.index_layout.specs.Layout.{keyLengthAt, hashLengthAt, entryCountAt, footerHashAt, leastVersion, mostVersion, pageKb}
+use Rattle.index_layout.specs.Layout.{leastOffsetWidth, mostOffsetWidth, sizeWidth, leastKeyLength, mostKeyLength, mostEntries}
+use Rattle.index_layout.specs.Layout.{footer, version, footerHash, entrySize, full, placedOn, placedNumber, onPage, entryNumber}
+use Rattle.index_layout.specs.Layout.{pageAt, entryAt, lastKeyAt, pageHashAt, indexLength, layoutWith, layoutFrom, layoutOf, pageOf}
 use Rattle.index_layout.specs.Entries.{entriesOf, entriesBy, listOf}
 use Rattle.index_layout.proofs.Laws.{on-page-placed, on-page-fits}
-use Rattle.index_open.specs.Open.{fieldCheck, fieldsCheckWith, fieldsCheck, hashedFooter, footerHashCheck, footerCheck, footerReading, shortCheck, lengthCheck, opening}
+use Rattle.index_open.specs.Open.{fieldCheck, fieldsCheckWith, fieldsCheck, hashedFooter, footerHashCheck}
+use Rattle.index_open.specs.Open.{footerCheck, footerReading, shortCheck, lengthCheck, opening}
 use Rattle.index_open.proofs.Opened.{Opened, opened, field-range, full-positive, entries-held, list-length, entries-length, page-inside}
 use Rattle.index.specs.Check.{pageHashCheck, paddingCheck, orderCheck, lastKeyCheck, pageCheck, pagesCheck, fullCheck}
 use Rattle.index_footer.specs.Footer.{footerAt, contentsOf, fields, hashedFields, footerWith}
@@ -146,7 +151,8 @@ module _ (s : List ℕ) (o : Opened s) where
     unfolding pageHashes pageHashIn pageHashAt
     hashes-again =
         parts-same (pageHashIn list l) (λ p. partAt (drop (lastKeyAt l (l .pages)) s) (p * hashLength) hashLength) 0 (l .pages)
-        (λ p a b. ap (λ m. take hashLength (md5 m)) (page-again p (omega arith)) ∙ hash-again p (omega arith) ∙ ap (take hashLength) (sym (drop-drop (p * hashLength) (lastKeyAt l (l .pages)) s)))
+        (λ p a b. ap (λ m. take hashLength (md5 m)) (page-again p (omega arith)) ∙ hash-again p (omega arith)
+        ∙ ap (take hashLength) (sym (drop-drop (p * hashLength) (lastKeyAt l (l .pages)) s)))
         ∙ parts-of (drop (lastKeyAt l (l .pages)) s) hashLength 0 (l .pages)
         ∙ ap (take (l .pages * hashLength)) (drop-drop (0 * hashLength) (lastKeyAt l (l .pages)) s)
 
@@ -209,8 +215,10 @@ module _ (f : List ℕ) (size : length f ≡ footerSize) (bytes : (i : ℕ) → 
       let h = first-right (fieldCheck f sizeWidthAt sizeWidth sizeWidth) _ g in
       let k = first-right (fieldCheck f keyLengthAt leastKeyLength mostKeyLength) _ h in
       part-bytes f versionAt (footerHashAt - versionAt) (omega (arith, size))
-      ∙ ap₂ _∷_ refl (ap₂ _∷_ (exact reservedAt 0 (first-left (fieldCheck f reservedAt 0 0) _ a)) (ap₂ _∷_ (exact (reservedAt + 1) 0 (first-left (fieldCheck f (reservedAt + 1) 0 0) _ b))
-      (ap₂ _∷_ (exact pageKbAt pageKb (first-left (fieldCheck f pageKbAt pageKb pageKb) _ c)) (ap₂ _∷_ refl (ap₂ _∷_ (exact sizeWidthAt sizeWidth (first-left (fieldCheck f sizeWidthAt sizeWidth sizeWidth) _ g))
+      ∙ ap₂ _∷_ refl (ap₂ _∷_ (exact reservedAt 0 (first-left (fieldCheck f reservedAt 0 0) _ a))
+      (ap₂ _∷_ (exact (reservedAt + 1) 0 (first-left (fieldCheck f (reservedAt + 1) 0 0) _ b))
+      (ap₂ _∷_ (exact pageKbAt pageKb (first-left (fieldCheck f pageKbAt pageKb pageKb) _ c))
+      (ap₂ _∷_ refl (ap₂ _∷_ (exact sizeWidthAt sizeWidth (first-left (fieldCheck f sizeWidthAt sizeWidth sizeWidth) _ g))
       (ap₂ _∷_ refl (ap₂ _∷_ (exact hashLengthAt hashLength k) (sym (little-again f entryCountAt 4 bytes)))))))))
 
   footer-again : (contents : List ℕ) → footerHashCheck f ≡ silent → footerWith (layoutFrom f) contents ≡ take hashLength (md5 contents) ++ drop hashLength f

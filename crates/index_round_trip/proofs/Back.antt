@@ -21,7 +21,10 @@ use Rattle.refusal.specs.Check.{silent}
 use Rattle.refusal.specs.Number.{index-short, footer-field, footer-hash, entry-count, index-length, index-page-hash, index-padding, index-order, last-key}
 use Rattle.refusal.proofs.Laws.{quiet, skip, from-silent}
 use Rattle.index_layout.specs.declared.Layout.{Layout}
-use Rattle.index_layout.specs.Layout.{pageSize, footerSize, hashLength, versionAt, reservedAt, pageKbAt, offsetWidthAt, sizeWidthAt, keyLengthAt, hashLengthAt, footerHashAt, leastVersion, mostVersion, pageKb, leastOffsetWidth, mostOffsetWidth, sizeWidth, leastKeyLength, mostKeyLength, mostEntries, footer, entryCount, footerHash, entrySize, full, placedOn, placedNumber, onPage, entryNumber, pageAt, entryAt, lastKeyAt, pageHashAt, indexLength, layoutWith, layoutFrom, layoutOf, pageOf}
+use Rattle.index_layout.specs.Layout.{pageSize, footerSize, hashLength, versionAt, reservedAt, pageKbAt, offsetWidthAt, sizeWidthAt, keyLengthAt}
+use Rattle.index_layout.specs.Layout.{hashLengthAt, footerHashAt, leastVersion, mostVersion, pageKb, leastOffsetWidth, mostOffsetWidth, sizeWidth}
+use Rattle.index_layout.specs.Layout.{leastKeyLength, mostKeyLength, mostEntries, footer, entryCount, footerHash, entrySize, full, placedOn, placedNumber}
+use Rattle.index_layout.specs.Layout.{onPage, entryNumber, pageAt, entryAt, lastKeyAt, pageHashAt, indexLength, layoutWith, layoutFrom, layoutOf, pageOf}
 use Rattle.index_layout.specs.Entries.{entriesOf, entriesBy, listOf}
 use Rattle.index_layout.proofs.Laws.{placed-full, placed-fits, on-page-placed}
 use Rattle.index_open.specs.Open.{fieldCheck, fieldsCheckWith, fieldsCheck, footerHashCheck, footerCheck, opening}
@@ -53,7 +56,8 @@ module _ (l : Layout) (contents : List ℕ) where
   footer-count h = omega arith
 
   -- and tell the layout
-  footer-layout : l .entries < 4294967296 → l ≡ layoutWith (l .version) (l .«offset_width») (l .«key_length») (l .entries) → layoutFrom (footerWith l contents) ≡ l
+  footer-layout : l .entries < 4294967296 → l ≡ layoutWith (l .version) (l .«offset_width») (l .«key_length») (l .entries)
+      → layoutFrom (footerWith l contents) ≡ l
   unfolding layoutFrom footerWith hashedFields fields md5 digestOf littleBytes
   footer-layout h e = ap (layoutWith (l .version) (l .«offset_width») (l .«key_length»)) (footer-count h) ∙ sym e
 
@@ -80,12 +84,14 @@ module _ (l : Layout) (contents : List ℕ) (v : l .version ≤ mostVersion) (o 
   unfolding footerHashCheck
   hash-quiet =
       quiet footer-hash 0 refl
-      (ap not (sameBytes-of-eq _ _ (ap (λ s. take hashLength (md5 (s ++ replicate hashLength 0))) (footer-fields l contents) ∙ sym (footer-hash-there l contents))))
+      (ap not (sameBytes-of-eq _ _ (ap (λ s. take hashLength (md5 (s ++ replicate hashLength 0))) (footer-fields l contents)
+      ∙ sym (footer-hash-there l contents))))
 
   footer-quiet : l .entries ≤ mostEntries → footerCheck (footerWith l contents) ≡ silent
   unfolding footerCheck
   footer-quiet h =
-      skip fields-quiet (skip hash-quiet (quiet entry-count 0 refl (ap (ltb mostEntries) (footer-count l contents (omega arith)) ∙ le-ltb mostEntries (l .entries) h)))
+      skip fields-quiet (skip hash-quiet (quiet entry-count 0 refl (ap (ltb mostEntries) (footer-count l contents (omega arith))
+      ∙ le-ltb mostEntries (l .entries) h)))
 
 -- ---- the file
 module _ (list : List ℕ) (l : Layout) (h : Held list l) where
@@ -98,7 +104,8 @@ module _ (list : List ℕ) (l : Layout) (h : Held list l) where
   front-length : length (pages list l ++ lastKeys list l ++ pageHashes list l) ≡ indexLength l - footerSize
   unfolding fileOf
   front-length =
-      omega (arith, file-length list l h, footer-length l contents, length-append (pages list l ++ lastKeys list l ++ pageHashes list l) (footerWith l contents))
+      let whole = length-append (pages list l ++ lastKeys list l ++ pageHashes list l) (footerWith l contents) in
+      omega (arith, file-length list l h, footer-length l contents, whole)
 
   pub footer-there : footer file ≡ footerWith l contents
   unfolding fileOf
@@ -120,7 +127,8 @@ module _ (list : List ℕ) (l : Layout) (h : Held list l) where
   unfolding lastKeyAt lastKeys
   last-key-is p k =
       ap (λ s. partAt s (lastKeyAt l p) (l .«key_length»)) pages-first
-      ∙ part-after (pages list l) (lastKeys list l ++ (pageHashes list l ++ footerWith l contents)) (p * l .«key_length») (pageAt (l .pages)) (l .«key_length») (pages-length list l h ∙ keys-begin l)
+      ∙ part-after (pages list l) (lastKeys list l ++ (pageHashes list l ++ footerWith l contents))
+      (p * l .«key_length») (pageAt (l .pages)) (l .«key_length») (pages-length list l h ∙ keys-begin l)
       ∙ parts-part (lastKeyIn list l) (l .«key_length») (l .pages) (pageHashes list l ++ footerWith l contents) (last-key-length list l h) p k
 
   page-hash-is : (p : ℕ) → p < l .pages → partAt file (pageHashAt l p) hashLength ≡ pageHashIn list l p
@@ -128,8 +136,10 @@ module _ (list : List ℕ) (l : Layout) (h : Held list l) where
   page-hash-is p k =
       let at : pageHashAt l p ≡ pageAt (l .pages) + (l .pages * l .«key_length» + p * hashLength) = omega arith in
       ap₂ (λ s n. partAt s n hashLength) pages-first at
-      ∙ part-after (pages list l) (lastKeys list l ++ (pageHashes list l ++ footerWith l contents)) (l .pages * l .«key_length» + p * hashLength) (pageAt (l .pages)) hashLength (pages-length list l h ∙ keys-begin l)
-      ∙ part-after (lastKeys list l) (pageHashes list l ++ footerWith l contents) (p * hashLength) (l .pages * l .«key_length») hashLength (last-keys-length list l h)
+      ∙ part-after (pages list l) (lastKeys list l ++ (pageHashes list l ++ footerWith l contents))
+      (l .pages * l .«key_length» + p * hashLength) (pageAt (l .pages)) hashLength (pages-length list l h ∙ keys-begin l)
+      ∙ part-after (lastKeys list l) (pageHashes list l ++ footerWith l contents) (p * hashLength)
+      (l .pages * l .«key_length») hashLength (last-keys-length list l h)
       ∙ parts-part (pageHashIn list l) hashLength (l .pages) (footerWith l contents) (λ j m. first-eight-length (pageIn list l j)) p k
 
   -- a page's entries and its padding
@@ -158,7 +168,8 @@ module _ (list : List ℕ) (l : Layout) (h : Held list l) where
   unfolding placedOn
   whole-page p k = ap (λ n. partAt list n (placedOn l p * entrySize l)) (list-begins p) ∙ go (decLt (l .entries - p * full l) (full l))
     where
-      go : Dec (l .entries - p * full l < full l) → partAt list (p * (full l * entrySize l)) (placedOn l p * entrySize l) ≡ partAt list (p * (full l * entrySize l)) (full l * entrySize l)
+      go : Dec (l .entries - p * full l < full l) → partAt list (p * (full l * entrySize l)) (placedOn l p * entrySize l)
+          ≡ partAt list (p * (full l * entrySize l)) (full l * entrySize l)
       go (no more) =
           let every : placedOn l p ≡ full l = omega arith in
           ap (λ m. partAt list (p * (full l * entrySize l)) (m * entrySize l)) every
@@ -169,7 +180,8 @@ module _ (list : List ℕ) (l : Layout) (h : Held list l) where
           length-drop (p * (full l * entrySize l)) list
           ∙ omega (arith, h .bytes, ap (λ n. n * entrySize l) count, add-mul (p * full l) (placedOn l p) (entrySize l), mul-assoc p (full l) (entrySize l)) in
           take-all (placedOn l p * entrySize l) (drop (p * (full l * entrySize l)) list) (omega (arith, bytes))
-          ∙ sym (take-all (full l * entrySize l) (drop (p * (full l * entrySize l)) list) (omega (arith, bytes, mul-le-mul-right (entrySize l) (placed-full l p))))
+          ∙ sym (take-all (full l * entrySize l) (drop (p * (full l * entrySize l)) list)
+          (omega (arith, bytes, mul-le-mul-right (entrySize l) (placed-full l p))))
 
   list-within : length list ≤ l .pages * (full l * entrySize l)
   list-within =
@@ -240,7 +252,8 @@ module _ (s : Settings) (list : List ℕ) (room : ℕ) (quiet-write : writeCheck
   stored = held s list room given
 
   ranges : (l .version ≤ mostVersion)
-      × (((leastOffsetWidth ≤ l .«offset_width») × (l .«offset_width» ≤ mostOffsetWidth)) × ((leastKeyLength ≤ l .«key_length») × (l .«key_length» ≤ mostKeyLength)))
+      × (((leastOffsetWidth ≤ l .«offset_width») × (l .«offset_width» ≤ mostOffsetWidth))
+      × ((leastKeyLength ≤ l .«key_length») × (l .«key_length» ≤ mostKeyLength)))
   unfolding layoutFor
   ranges = (given .version, ((given .offset-low, given .offset-high), (given .key-low, given .key-high)))
 

@@ -55,7 +55,8 @@ begins : (answer output : List ℕ) (n : ℕ) → n ≡ length answer → take n
 begins answer output n e = take-at answer (drop (length answer) output) n (sym e)
 
 -- a checked index is listed where there is room
-module _ (s lent : List ℕ) (answer : Written) (left : List ℕ) (c : Lists s lent answer left) (e : fullCheck s ≡ silent) (room : length (listOf s) ≤ length lent) where
+module _ (s lent : List ℕ) (answer : Written) (left : List ℕ) (c : Lists s lent answer left) (e : fullCheck s ≡ silent)
+    (room : length (listOf s) ≤ length lent) where
   list-quiet : listCheck s (length lent) ≡ silent
   unfolding listCheck
   list-quiet = skip e (quiet output-short 0 refl (le-ltb (length lent) (length (listOf s)) room))
@@ -95,7 +96,8 @@ module _ (s : List ℕ) (c : Again s) where
       let whole : fileOf given (layoutFor (settingsOf (c .layout)) given) ≡ withContentsHash s (contentsHashOf s) =
       ap₂ (λ m r. fileOf r (layoutFor (settingsOf m) r)) (told .1) list-read ∙ again .1 in
       let size : indexLength (layoutFor (settingsOf (c .layout)) given) ≡ length s =
-      ap₂ (λ m r. indexLength (layoutFor (settingsOf m) r)) (told .1) list-read ∙ ap indexLength (layout-again s (c .bytes) (told .0)) ∙ sym (opened s opening-told .whole) in
+      ap₂ (λ m r. indexLength (layoutFor (settingsOf m) r)) (told .1) list-read ∙ ap indexLength (layout-again s (c .bytes) (told .0))
+      ∙ sym (opened s opening-told .whole) in
       record {
         listed = listed-told;
         written = written-is (c .written) (length s) (c .write .answers ∙ after-quiet _ quiet-write ∙ ap (λ m. answered (m ∷ [])) size);
@@ -111,7 +113,8 @@ module _ (t : Settings) (list : List ℕ) (c : Back t list) where
   write-told : (writeCheck t list (length (c .file-lent)) ≡ silent) × (c .size ≡ indexLength (layoutFor t list))
   unfolding writtenOutcome
   write-told =
-      let a = answered-after (writeCheck t list (length (c .file-lent))) (c .size ∷ []) (indexLength (layoutFor t list) ∷ []) (sym (ap writtenOutcome (c .passed)) ∙ c .write .answers) in
+      let a = answered-after (writeCheck t list (length (c .file-lent))) (c .size ∷ []) (indexLength (layoutFor t list) ∷ [])
+      (sym (ap writtenOutcome (c .passed)) ∙ c .write .answers) in
       (a .0, (cc (a .1)))
 
   file-told : c .size ≡ length file
@@ -137,7 +140,8 @@ module _ (t : Settings) (list : List ℕ) (c : Back t list) where
   reads-back = record {
     checked = c .check ∙ after-quiet _ full-told ∙ ap (λ s. answered (layoutValues (layoutOf s))) file-read
         ∙ ap (λ l. answered (layoutValues l)) (layout-back t list (length (c .file-lent)) (write-told .0));
-    listed = list-answer (take (c .size) (c .output)) (c .list-lent) (c .listed) (c .listing) (c .relist) full-told list-fits ∙ ap (λ r. Bytes (length r)) list-told;
+    listed = list-answer (take (c .size) (c .output)) (c .list-lent) (c .listed) (c .listing) (c .relist) full-told list-fits
+        ∙ ap (λ r. Bytes (length r)) list-told;
     entries = list-left (take (c .size) (c .output)) (c .list-lent) (c .listed) (c .listing) (c .relist) full-told list-fits
         ∙ ap (λ r. r ++ drop (length r) (c .list-lent)) list-told;
   }

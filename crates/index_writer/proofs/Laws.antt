@@ -13,9 +13,11 @@ use Rattle.refusal.proofs.Laws.{said, quiet, first-said, skip}
 use Rattle.rising.specs.Fall.{risesAt, fallFrom}
 use Rattle.rising.proofs.Laws.{fall-check, fall-low}
 use Rattle.numbers.specs.Number.{within}
-use Rattle.index_layout.specs.Layout.{leastVersion, mostVersion, leastOffsetWidth, mostOffsetWidth, leastKeyLength, mostKeyLength, mostEntries, countCheck, indexLength}
+use Rattle.index_layout.specs.Layout.{leastVersion, mostVersion, leastOffsetWidth, mostOffsetWidth}
+use Rattle.index_layout.specs.Layout.{leastKeyLength, mostKeyLength, mostEntries, countCheck, indexLength}
 use Rattle.index_writer.specs.declared.Settings.{Settings}
-use Rattle.index_writer.specs.Write.{listEntrySize, listCount, layoutFor, settingsRight, settingsCheck, wholeCheck, keyIn, listOrderCheck, risingCheck, inputCheck, writeCheck}
+use Rattle.index_writer.specs.Write.{listEntrySize, listCount, layoutFor, settingsRight, settingsCheck}
+use Rattle.index_writer.specs.Write.{wholeCheck, keyIn, listOrderCheck, risingCheck, inputCheck, writeCheck}
 
 -- the settings, field by field
 module _ (s : Settings) where
@@ -23,7 +25,8 @@ module _ (s : Settings) where
   unfolding settingsRight
   version-wrong v = rw v
 
-  pub width-wrong : within (s .version) leastVersion mostVersion ≡ true → within (s .«offset_width») leastOffsetWidth mostOffsetWidth ≡ false → false ≡ settingsRight s
+  pub width-wrong : within (s .version) leastVersion mostVersion ≡ true → within (s .«offset_width») leastOffsetWidth mostOffsetWidth ≡ false
+      → false ≡ settingsRight s
   unfolding settingsRight
   width-wrong v w = rw (v, w)
 

@@ -14,11 +14,13 @@ use Rattle.refusal.specs.Output.{roomCheck}
 use Rattle.refusal.specs.Number.{settings, list-length, entry-count, index-order, output-short}
 use Rattle.refusal.proofs.Laws.{silent-test, first-left, first-right, from-each}
 use Rattle.index_layout.specs.Layout as layout
-use Rattle.index_layout.specs.Layout.{leastVersion, mostVersion, leastOffsetWidth, mostOffsetWidth, leastKeyLength, mostKeyLength, mostEntries, countCheck, full, indexLength}
+use Rattle.index_layout.specs.Layout.{leastVersion, mostVersion, leastOffsetWidth, mostOffsetWidth}
+use Rattle.index_layout.specs.Layout.{leastKeyLength, mostKeyLength, mostEntries, countCheck, full, indexLength}
 use Rattle.index_layout.proofs.Laws.{per-page, size-low}
 use Rattle.numbers.proofs.Laws.{within-range}
 use Rattle.index_writer.specs.declared.Settings.{Settings}
-use Rattle.index_writer.specs.Write.{listEntrySize, listCount, layoutFor, settingsRight, settingsCheck, wholeCheck, keyIn, listOrderCheck, inputCheck, writeCheck}
+use Rattle.index_writer.specs.Write.{listEntrySize, listCount, layoutFor, settingsRight, settingsCheck}
+use Rattle.index_writer.specs.Write.{wholeCheck, keyIn, listOrderCheck, inputCheck, writeCheck}
 use Rattle.index_file.specs.Held.{Held}
 
 pub record Passed (s : Settings) (list : List ℕ) (room : ℕ) : Type 0 where
@@ -34,7 +36,8 @@ pub record Passed (s : Settings) (list : List ℕ) (room : ℕ) : Type 0 where
 
 pub right : (s : Settings) → settingsRight s ≡ true
     → (s .version ≤ mostVersion)
-    × (((leastOffsetWidth ≤ s .«offset_width») × (s .«offset_width» ≤ mostOffsetWidth)) × ((leastKeyLength ≤ s .«key_length») × (s .«key_length» ≤ mostKeyLength)))
+    × (((leastOffsetWidth ≤ s .«offset_width») × (s .«offset_width» ≤ mostOffsetWidth))
+    × ((leastKeyLength ≤ s .«key_length») × (s .«key_length» ≤ mostKeyLength)))
 unfolding settingsRight
 right s e =
     let width : Bool = within (s .«offset_width») leastOffsetWidth mostOffsetWidth in
@@ -65,7 +68,8 @@ passed s list room e =
       rises = λ i a b.
           let j : 1 + (i - 1) ≡ i = omega arith in
           not-false _ (silent-test _ index-order i (rw j at (from-each (listOrderCheck s list) 1 (listCount s list - 1) (e3) (i - 1) (omega arith))));
-      fits = ltb-false room (indexLength (layoutFor s list)) (silent-test _ output-short 0 (first-right (inputCheck s list) (roomCheck (indexLength (layoutFor s list)) room) e));
+      fits = ltb-false room (indexLength (layoutFor s list)) (silent-test _ output-short 0
+          (first-right (inputCheck s list) (roomCheck (indexLength (layoutFor s list)) room) e));
     }
 
 pub held : (s : Settings) (list : List ℕ) (room : ℕ) → Passed s list room → Held list (layoutFor s list)

@@ -12,7 +12,8 @@ use Rattle.refusal.specs.Outcome.{Outcome, answered, after}
 use Rattle.refusal.specs.Number.{settings, list-length, index-order}
 use Rattle.refusal.specs.Output.{roomCheck}
 use Rattle.index_layout.specs.declared.Layout.{Layout}
-use Rattle.index_layout.specs.Layout.{leastVersion, mostVersion, leastOffsetWidth, mostOffsetWidth, leastKeyLength, mostKeyLength, countCheck, entrySize, indexLength, layoutWith}
+use Rattle.index_layout.specs.Layout.{leastVersion, mostVersion, leastOffsetWidth, mostOffsetWidth, leastKeyLength}
+use Rattle.index_layout.specs.Layout.{mostKeyLength, countCheck, entrySize, indexLength, layoutWith}
 use Rattle.index_writer.specs.declared.Settings.{Settings}
 
 -- The layout of an index with these settings and n entries.

@@ -63,7 +63,8 @@ pub fn settings_right(settings: Settings) -> bool
 
 // Refusals 11, 12, 4 and 8, and the layout of the file.
 fn judge(settings: Settings, list: &[u8]) -> Checked
-    ensures { λ r. ⌜ check.outcome r ≡ after (spec.inputCheck settings (now (list .entry))) (answered (check.layoutValues (spec.layoutFor settings (now (list .entry))))) ⌝ }
+    ensures { λ r. ⌜ check.outcome r
+        ≡ after (spec.inputCheck settings (now (list .entry))) (answered (check.layoutValues (spec.layoutFor settings (now (list .entry))))) ⌝ }
 {
     if !settings_right(settings) {
         return refuse(SETTINGS, 0);
@@ -102,7 +103,9 @@ fn write_file(list: &[u8], l: Layout, output: &mut [u8])
 // Writes the index of a list into the output.
 pub fn write(settings: Settings, list: &[u8], output: &mut [u8]) -> Written
     ensures { λ r. ⌜ writtenOutcome r ≡ spec.writeOutcome settings (now (list .entry)) (length (now (output .entry))) ⌝ }
-    ensures { λ _. ⌜ now (output .exit) ≡ filled (spec.writeCheck settings (now (list .entry)) (length (now (output .entry)))) (fileOf (now (list .entry)) (spec.layoutFor settings (now (list .entry)))) (now (output .entry)) ⌝ }
+    ensures { λ _. ⌜ now (output .exit)
+        ≡ filled (spec.writeCheck settings (now (list .entry)) (length (now (output .entry))))
+        (fileOf (now (list .entry)) (spec.layoutFor settings (now (list .entry)))) (now (output .entry)) ⌝ }
 {
     match judge(settings, list) {
         Checked::Refused(r) => Written::Refused(r),

@@ -46,7 +46,12 @@ module _ (s : List ℕ) (o : Opened s) where
   page-most : (p : ℕ) → length (pageText s (layoutOf s) p) ≤ 43680
   unfolding pageText
   page-most p =
-      omega (arith, parts-most (line s (layoutOf s) p) 96 0 (onPage (layoutOf s) p) (λ i. line-most s (layoutOf s) p i key-most), on-page-full (layoutOf s) p, full-most)
+      omega (
+        arith,
+        parts-most (line s (layoutOf s) p) 96 0 (onPage (layoutOf s) p) (λ i. line-most s (layoutOf s) p i key-most),
+        on-page-full (layoutOf s) p,
+        full-most,
+      )
 
   -- a page takes 4,105 bytes or more of the file
   pages-most : length s ≤ 65536 → layoutOf s .pages ≤ 15

@@ -16,48 +16,20 @@ abbrev μ-loop : tie.MeasureT-loop
 loop-holds : tie.Need-loop-holds Inv-loop μ-loop
 loop-holds c = reached-whole _ _
 
-add-middle : tie.Need-add-middle Inv-loop μ-loop
-add-middle c = search needs
-
-add-compared : tie.Need-add-compared Inv-loop μ-loop
-add-compared c = search needs
-
-cast-part : tie.Need-cast-part Inv-loop μ-loop
-cast-part c = search needs
-
 mul-part : tie.Need-mul-part Inv-loop μ-loop
 mul-part c = offset-fits (omega arith) (omega arith)
-
-part-requires : tie.Need-part-requires Inv-loop μ-loop
-part-requires c κs = search needs
-
-rises-requires : tie.Need-rises-requires Inv-loop μ-loop
-rises-requires c κs = search needs
-
-add-start : tie.Need-add-start Inv-loop μ-loop
-add-start c = search needs
-
-sub-left : tie.Need-sub-left Inv-loop μ-loop
-sub-left c = search needs
-
-sub-left-2 : tie.Need-sub-left-2 Inv-loop μ-loop
-sub-left-2 c = search needs
-
-loop-less : tie.Need-loop-less Inv-loop μ-loop
-loop-less c = search needs
 
 loop-again : tie.Need-loop-again Inv-loop μ-loop
 unfolding keyBelow
 loop-again c =
-    reached-after (c .before .before .before .before .loop .inv) (search needs) (sym (rw (c .before .before .part .ensures .0) at (c .before .rises .ensures)) ∙ c .if1 .taken)
-
-loop-less-2 : tie.Need-loop-less-2 Inv-loop μ-loop
-loop-less-2 c = search needs
+    let loop = c .before .before .before .before in
+    reached-after (loop .loop .inv) (search needs) (sym (rw (c .before .before .part .ensures .0) at (c .before .rises .ensures)) ∙ c .if1 .taken)
 
 loop-again-2 : tie.Need-loop-again-2 Inv-loop μ-loop
 unfolding keyBelow
 loop-again-2 c =
-    reached-before (c .before .before .before .before .loop .inv) (search needs) (sym (rw (c .before .before .part .ensures .0) at (c .before .rises .ensures)) ∙ c .if1 .left)
+    let loop = c .before .before .before .before in
+    reached-before (loop .loop .inv) (search needs) (sym (rw (c .before .before .part .ensures .0) at (c .before .rises .ensures)) ∙ c .if1 .left)
 
 returns : tie.Need-returns Inv-loop μ-loop
 returns c =
@@ -71,17 +43,17 @@ halve-spec =
     Inv-loop
     μ-loop
     loop-holds
-    add-middle
-    add-compared
-    cast-part
+    (λ c. search needs)
+    (λ c. search needs)
+    (λ c. search needs)
     mul-part
-    part-requires
-    rises-requires
-    add-start
-    sub-left
-    sub-left-2
-    loop-less
+    (λ c κs. search needs)
+    (λ c κs. search needs)
+    (λ c. search needs)
+    (λ c. search needs)
+    (λ c. search needs)
+    (λ c. search needs)
     loop-again
-    loop-less-2
+    (λ c. search needs)
     loop-again-2
     returns)

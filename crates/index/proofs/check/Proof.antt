@@ -9,47 +9,37 @@ use borrow.Author.Needs.{needs}
 use Rattle.index.proofs.check.Statement.{statement}
 use Rattle.index.proofs.check.Tie as tie
 
-open-requires : tie.Need-open-requires
-open-requires c κs = search needs
-
-enum-known-opened : tie.Need-enum-known-opened
-enum-known-opened c = search needs
-
-check-pages-requires : tie.Need-check-pages-requires
-check-pages-requires c κs = search needs
-
-enum-known-r : tie.Need-enum-known-r
-enum-known-r c = search needs
-
 returns : tie.Need-returns
 unfolding fullCheck outcome
 returns c =
-    let s = c .before .before .before .before .before .before .before .before .before .args .index .now in
-    let o = c .before .before .before .before .before .before .before .open in
-    let v = c .before .before .before .check-pages in
-    let i = passed-index (opening s) _ (layoutOf s) (o .result) (o .ensures) (c .before .before .before .before .before .opened .given .1) in
+    let check-pages = c .before .before .before in
+    let opened = check-pages .before .before in
+    let open-at = opened .before .before in
+    let start = open-at .before .before in
+    let s = start .args .index .now in
+    let o = open-at .open in
+    let v = check-pages .check-pages in
+    let i = passed-index (opening s) _ (layoutOf s) (o .result) (o .ensures) (opened .opened .given .1) in
     sym (after-said _ (skip (i .0) (refused-is (v .result) _ (v .ensures ∙ ap (pagesCheck s) (i .1)) (c .before .r .given .1))))
-
-enum-told : tie.Need-enum-told
-enum-told c = search needs
-
-enum-told-2 : tie.Need-enum-told-2
-enum-told-2 c = search needs
 
 returns-2 : tie.Need-returns-2
 unfolding fullCheck
 returns-2 c =
-    let s = c .before .before .before .before .before .before .before .before .args .index .now in
-    let o = c .before .before .before .before .before .before .open in
+    let opened = c .before .before .before .before in
+    let open-at = opened .before .before in
+    let start = open-at .before .before in
+    let s = start .args .index .now in
+    let o = open-at .open in
     let v = c .before .before .check-pages in
-    let i = passed-index (opening s) _ (layoutOf s) (o .result) (o .ensures) (c .before .before .before .before .opened .given .1) in
-    ap outcome (sym (c .before .before .before .before .opened .given .1)) ∙ o .ensures ∙ after-quiet _ (i .0)
+    let i = passed-index (opening s) _ (layoutOf s) (o .result) (o .ensures) (opened .opened .given .1) in
+    ap outcome (sym (opened .opened .given .1)) ∙ o .ensures ∙ after-quiet _ (i .0)
     ∙ sym (after-quiet _ (skip (i .0) (passed-is (v .result) _ (v .ensures ∙ ap (pagesCheck s) (i .1)) (c .enum-told .given .1))))
 
 returns-3 : tie.Need-returns-3
 unfolding fullCheck
 returns-3 c =
-    let s = c .before .before .before .before .args .index .now in
+    let start = c .before .before .before .before in
+    let s = start .args .index .now in
     let o = c .before .before .open in
     let e = refused-index (opening s) (layoutOf s) (o .result) (o .ensures) (c .enum-told2 .given .1) in
     o .ensures ∙ after-said _ e ∙ sym (after-said _ (first-said _ e))
@@ -58,12 +48,12 @@ pub check-spec : {M : Type 1} → statement M
 check-spec =
     tie.close
     (tie.spec
-    open-requires
-    enum-known-opened
-    check-pages-requires
-    enum-known-r
+    (λ c κs. search needs)
+    (λ c. search needs)
+    (λ c κs. search needs)
+    (λ c. search needs)
     returns
-    enum-told
-    enum-told-2
+    (λ c. search needs)
+    (λ c. search needs)
     returns-2
     returns-3)

@@ -41,7 +41,8 @@ loop-holds c = (search needs, c .last-key-at .ensures ∙ keys-begin (c .before 
 
 add-to : tie.Need-add-to Inv-loop μ-loop
 add-to c =
-    let key = c .before .before .before .before .before .before .before in
+    let last-key = c .before .before .before .before .before .before .before in
+    let key = last-key in
     let loop = loop-at key in
     omega (arith, short key, loop .loop .inv, key .before .before .loop-test .taken, start-at loop .good)
 
@@ -55,7 +56,8 @@ loop-again c =
     let inv = loop .loop .inv in
     let read = part .part .ensures .0 ∙ key .last-key .ensures .0 in
     let count : key .last-key .result .count ≡ length (part .part .result .now) = key .last-key .ensures .1 ∙ sym (ap length read) in
-    let turn = last-key-laid (a .output .now) (a .l) _ _ _ (loop .loop .to) (loop .loop .p) read (omega (arith, start-at loop .good)) (omega (arith, inv .1)) (inv .3) (inv .4) in
+    let turn = last-key-laid (a .output .now) (a .l) _ _ _ (loop .loop .to) (loop .loop .p) read
+    (omega (arith, start-at loop .good)) (omega (arith, inv .1)) (inv .3) (inv .4) in
     (omega arith, inv .1, omega (arith, short key), ap (λ n. loop .loop .to + n) count ∙ turn .0, copy .copy .ensures ∙ turn .1)
 
 same-length : tie.Need-same-length Inv-loop μ-loop

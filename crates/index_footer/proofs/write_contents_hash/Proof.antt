@@ -13,53 +13,45 @@ use borrow.Author.Needs.{needs}
 use Rattle.index_footer.proofs.write_contents_hash.Statement.{statement}
 use Rattle.index_footer.proofs.write_contents_hash.Tie as tie
 
-last-key-at-requires : tie.Need-last-key-at-requires
-last-key-at-requires c κs = search needs
-
-page-hash-at-requires : tie.Need-page-hash-at-requires
-page-hash-at-requires c κs = search needs
-
 sub-part : tie.Need-sub-part
 sub-part c =
-    omega (arith, c .before .page-hash-at .ensures, c .before .before .last-key-at .ensures, footer-begins (c .before .before .before .before .args .l))
-
-part-requires : tie.Need-part-requires
-part-requires c κs = search needs
-
-first-eight-requires : tie.Need-first-eight-requires
-first-eight-requires c κs = search needs
-
-slice-aggregate-copy : tie.Need-slice-aggregate-copy
-slice-aggregate-copy c = search needs
-
-copy-requires : tie.Need-copy-requires
-copy-requires c κs = search needs
-
-same-length : tie.Need-same-length
-same-length c = search needs
+    let start = c .before .before .before .before in
+    omega (arith, c .before .page-hash-at .ensures, c .before .before .last-key-at .ensures, footer-begins (start .args .l))
 
 returns : tie.Need-returns
 returns c =
-    let a = c .before .before .before .before .before .before .before .before .before .before .before .before .args in
+    let first-eight = c .before .before .before .before .before .before in
+    let part = first-eight .before in
+    let page-hash-at = part .before .before in
+    let last-key-at = page-hash-at .before in
+    let start = last-key-at .before .before in
+    let a = start .args in
     let out = a .output .now in
-    let from = c .before .before .before .before .before .before .before .before .before .before .last-key-at in
-    let at = c .before .before .before .before .before .before .before .before .before .page-hash-at in
-    let contents = c .before .before .before .before .before .before .before .part in
-    let short : length (contents .result .now) ≤ 2 ^ 48 = omega (arith, ap length (contents .ensures .0), partAt-length out (from .result) (at .result - from .result), at .ensures, footer-most (a .l) (omega (arith, c .before .before .before .before .before .before .before .before .before .before .before .before .good)) (omega (arith, c .before .before .before .before .before .before .before .before .before .before .before .before .good))) in
+    let from = last-key-at .last-key-at in
+    let at = page-hash-at .page-hash-at in
+    let contents = part .part in
+    let short : length (contents .result .now) ≤ 2 ^ 48 = omega (
+      arith,
+      ap length (contents .ensures .0),
+      partAt-length out (from .result) (at .result - from .result),
+      at .ensures,
+      footer-most (a .l) (omega (arith, start .good)) (omega (arith, start .good)),
+    ) in
     let bytes = contents .ensures .0 ∙ ap₂ (λ i j. partAt out i (j - i)) (from .ensures) (at .ensures) in
     c .before .before .copy .ensures
-    ∙ ap₂ (overlay out) (at .ensures) (first-eight-within (contents .result .now) _ short (c .before .before .before .before .before .before .first-eight .ensures .1) ∙ ap (λ s. take hashLength (md5 s)) bytes)
+    ∙ ap₂ (overlay out) (at .ensures) (first-eight-within (contents .result .now) _ short (first-eight .first-eight .ensures .1)
+    ∙ ap (λ s. take hashLength (md5 s)) bytes)
 
 pub write-contents-hash-spec : {M : Type 1} → statement M
 write-contents-hash-spec =
     tie.close
     (tie.spec
-    last-key-at-requires
-    page-hash-at-requires
+    (λ c κs. search needs)
+    (λ c κs. search needs)
     sub-part
-    part-requires
-    first-eight-requires
-    slice-aggregate-copy
-    copy-requires
-    same-length
+    (λ c κs. search needs)
+    (λ c κs. search needs)
+    (λ c. search needs)
+    (λ c κs. search needs)
+    (λ c. search needs)
     returns)

@@ -20,74 +20,72 @@ use borrow.Author.Needs.{needs}
 use Rattle.index_list.proofs.list.Statement.{statement}
 use Rattle.index_list.proofs.list.Tie as tie
 
-check-requires : tie.Need-check-requires
-check-requires c κs = search needs
-
-enum-known-r : tie.Need-enum-known-r
-enum-known-r c = search needs
-
-enum-known-l : tie.Need-enum-known-l
-enum-known-l c = search needs
-
-cast-bytes : tie.Need-cast-bytes
-cast-bytes c = search needs
-
-entry-size-requires : tie.Need-entry-size-requires
-entry-size-requires c κs = search needs
-
 mul-bytes : tie.Need-mul-bytes
 mul-bytes c = omega (arith, bound (c .before .before .before .l .given .0 .0 .entries) (c .entry-size .result) 4294967295 514 (omega arith) (omega arith))
 
 returns : tie.Need-returns
 unfolding filled listCheck writtenOutcome
 returns c =
-    let s = c .before .before .before .before .before .before .before .before .before .args .index .now in
-    let k = c .before .before .before .before .before .before .check in
-    let i = passed-list s _ (k .result) (c .before .entry-size .result) (k .ensures) (c .before .before .before .before .l .given .1) (c .before .entry-size .ensures .0) in
-    let out = c .before .before .before .before .before .before .before .before .before .args .output .now in
+    let l = c .before .before .before .before in
+    let check = l .before .before in
+    let start = check .before .before .before in
+    let s = start .args .index .now in
+    let k = check .check in
+    let i = passed-list s _ (k .result) (c .before .entry-size .result) (k .ensures) (l .l .given .1) (c .before .entry-size .ensures .0) in
+    let out = start .args .output .now in
     let e = skip (i .quiet) (said refl (lt-ltb (length out) (length (listOf s)) (rw (i .bytes) at (c .if1 .taken)))) in
     (sym (after-said _ e), sym (ap (λ t. filled t (listOf s) out) e))
 
 fill-requires : tie.Need-fill-requires
 fill-requires c κs =
-    let s = c .before .before .before .before .before .before .before .before .before .before .args .index .now in
-    let k = c .before .before .before .before .before .before .before .check in
-    let i = passed-list s _ (k .result) (c .before .before .entry-size .result) (k .ensures) (c .before .before .before .before .before .l .given .1) (c .before .before .entry-size .ensures .0) in
+    let l = c .before .before .before .before .before in
+    let check = l .before .before in
+    let start = check .before .before .before in
+    let s = start .args .index .now in
+    let k = check .check in
+    let i = passed-list s _ (k .result) (c .before .before .entry-size .result) (k .ensures) (l .l .given .1) (c .before .before .entry-size .ensures .0) in
     le-trans (le-of-eq (ap length (i .list) ∙ sym (i .bytes))) (c .before .if1 .left)
 
 returns-2 : tie.Need-returns-2
 unfolding filled listCheck writtenOutcome
 returns-2 c =
-    let s = c .before .before .before .before .before .before .args .index .now in
-    let k = c .before .before .before .check in
+    let check = c .before .before .before in
+    let start = check .before .before .before in
+    let s = start .args .index .now in
+    let k = check .check in
     let e = first-said _ (refused-index (fullCheck s) (layoutOf s) (k .result) (k .ensures) (c .before .r .given .1)) in
-    (sym (after-said _ e), sym (ap (λ t. filled t (listOf s) (c .before .before .before .before .before .before .args .output .now)) e))
-
-same-length : tie.Need-same-length
-same-length c = search needs
+    (sym (after-said _ e), sym (ap (λ t. filled t (listOf s) (start .args .output .now)) e))
 
 returns-3 : tie.Need-returns-3
 unfolding filled listCheck writtenOutcome
 returns-3 c =
-    let s = c .before .before .before .before .before .before .before .before .before .before .before .before .before .args .index .now in
-    let k = c .before .before .before .before .before .before .before .before .before .before .check in
-    let i = passed-list s _ (k .result) (c .before .before .before .before .before .entry-size .result) (k .ensures) (c .before .before .before .before .before .before .before .before .l .given .1) (c .before .before .before .before .before .entry-size .ensures .0) in
-    let out = c .before .before .before .before .before .before .before .before .before .before .before .before .before .args .output .now in
-    let e = skip (i .quiet) (quiet output-short 0 refl (le-ltb (length out) (length (listOf s)) (rw (i .bytes) at (c .before .before .before .before .if1 .left)))) in
-    (ap (λ n. answered (n ∷ [])) (i .bytes) ∙ sym (after-quiet _ e), c .before .before .fill .ensures ∙ rw (i .list) (sym (ap (λ t. filled t (listOf s) out) e)))
+    let else1 = c .before .before .before .before in
+    let entry-size = else1 .before in
+    let l = entry-size .before .before .before in
+    let check = l .before .before in
+    let start = check .before .before .before in
+    let s = start .args .index .now in
+    let k = check .check in
+    let i = passed-list s _ (k .result) (entry-size .entry-size .result) (k .ensures) (l .l .given .1) (entry-size .entry-size .ensures .0) in
+    let out = start .args .output .now in
+    let e = skip (i .quiet) (quiet output-short 0 refl (le-ltb (length out) (length (listOf s)) (rw (i .bytes) at (else1 .if1 .left)))) in (
+      ap (λ n. answered (n ∷ [])) (i .bytes) ∙ sym (after-quiet _ e),
+      c .before .before .fill .ensures
+          ∙ rw (i .list) (sym (ap (λ t. filled t (listOf s) out) e)),
+    )
 
 pub list-spec : {M : Type 1} → statement M
 list-spec =
     tie.close
     (tie.spec
-    check-requires
-    enum-known-r
-    enum-known-l
-    cast-bytes
-    entry-size-requires
+    (λ c κs. search needs)
+    (λ c. search needs)
+    (λ c. search needs)
+    (λ c. search needs)
+    (λ c κs. search needs)
     mul-bytes
     returns
     fill-requires
     returns-2
-    same-length
+    (λ c. search needs)
     returns-3)

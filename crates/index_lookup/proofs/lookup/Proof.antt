@@ -8,55 +8,54 @@ use borrow.Author.Needs.{needs}
 use Rattle.index_lookup.proofs.lookup.Statement.{statement}
 use Rattle.index_lookup.proofs.lookup.Tie as tie
 
-open-requires : tie.Need-open-requires
-open-requires c κs = search needs
-
-enum-known-r : tie.Need-enum-known-r
-enum-known-r c = search needs
-
-enum-known-l : tie.Need-enum-known-l
-enum-known-l c = search needs
-
-cast-if1 : tie.Need-cast-if1
-cast-if1 c = search needs
-
 returns : tie.Need-returns
 unfolding outcome
 returns c =
-    let s = c .before .before .before .before .before .before .before .before .args .index .now in
-    let o = c .before .before .before .before .before .open in
-    let opened = passed-index (opening s) _ (layoutOf s) (o .result) (o .ensures) (c .before .before .before .l .given .1) in
+    let l = c .before .before .before in
+    let open-at = l .before .before in
+    let start = open-at .before .before .before in
+    let s = start .args .index .now in
+    let o = open-at .open in
+    let opened = passed-index (opening s) _ (layoutOf s) (o .result) (o .ensures) (l .l .given .1) in
     other-length s _ _ (opened .0) (opened .1) (c .if1 .taken)
 
 seek-requires : tie.Need-seek-requires
 seek-requires c κs =
-    let s = c .before .before .before .before .before .before .before .before .args .index .now in
-    let o = c .before .before .before .before .before .open in
-    let opened = passed-index (opening s) _ (layoutOf s) (o .result) (o .ensures) (c .before .before .before .l .given .1) in
+    let l = c .before .before .before in
+    let open-at = l .before .before in
+    let start = open-at .before .before .before in
+    let s = start .args .index .now in
+    let o = open-at .open in
+    let opened = passed-index (opening s) _ (layoutOf s) (o .result) (o .ensures) (l .l .given .1) in
     (c .if1 .left, rw (opened .1) (width-fits s (opened .0)))
 
 returns-2 : tie.Need-returns-2
 unfolding outcome
 returns-2 c =
-    let s = c .before .before .before .before .before .before .args .index .now in
-    let o = c .before .before .before .open in
+    let open-at = c .before .before .before in
+    let start = open-at .before .before .before in
+    let s = start .args .index .now in
+    let o = open-at .open in
     not-opened s _ (refused-index (opening s) (layoutOf s) (o .result) (o .ensures) (c .before .r .given .1))
 
 returns-3 : tie.Need-returns-3
 returns-3 c =
-    let s = c .before .before .before .before .before .before .before .before .before .args .index .now in
-    let o = c .before .before .before .before .before .before .open in
-    let opened = passed-index (opening s) _ (layoutOf s) (o .result) (o .ensures) (c .before .before .before .before .l .given .1) in
+    let l = c .before .before .before .before in
+    let open-at = l .before .before in
+    let start = open-at .before .before .before in
+    let s = start .args .index .now in
+    let o = open-at .open in
+    let opened = passed-index (opening s) _ (layoutOf s) (o .result) (o .ensures) (l .l .given .1) in
     looked-up s _ _ (opened .0) (opened .1) _ (c .before .if1 .left) (c .seek .ensures)
 
 pub lookup-spec : {M : Type 1} → statement M
 lookup-spec =
     tie.close
     (tie.spec
-    open-requires
-    enum-known-r
-    enum-known-l
-    cast-if1
+    (λ c κs. search needs)
+    (λ c. search needs)
+    (λ c. search needs)
+    (λ c. search needs)
     returns
     seek-requires
     returns-2

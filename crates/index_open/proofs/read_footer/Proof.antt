@@ -16,25 +16,17 @@ unfolding outcome
 returns c =
     sym (after-said _ (first-said _ (said refl (lt-ltb (length (c .before .before .args .index .now)) 28 (c .if1 .taken)))))
 
-footer-requires : tie.Need-footer-requires
-footer-requires c κs = search needs
-
-check-footer-requires : tie.Need-check-footer-requires
-check-footer-requires c κs = search needs
-
-enum-known-r : tie.Need-enum-known-r
-enum-known-r c = search needs
-
 returns-2 : tie.Need-returns-2
 unfolding outcome
 returns-2 c =
-    let s = c .before .before .before .before .before .before .before .args .index .now in
-    let v = c .before .before .before .check-footer in
-    let is = v .ensures ∙ ap footerCheck (c .before .before .before .before .footer .ensures .0) in
-    sym (after-said _ (skip (quiet index-short 0 refl (le-ltb (length s) 28 (c .before .before .before .before .before .if1 .left))) (refused-is (v .result) _ is (c .before .r .given .1))))
-
-enum-told : tie.Need-enum-told
-enum-told c = search needs
+    let check-footer = c .before .before .before in
+    let footer = check-footer .before in
+    let else1 = footer .before in
+    let start = else1 .before .before in
+    let s = start .args .index .now in
+    let v = check-footer .check-footer in
+    let is = v .ensures ∙ ap footerCheck (footer .footer .ensures .0) in
+    sym (after-said _ (skip (quiet index-short 0 refl (le-ltb (length s) 28 (else1 .if1 .left))) (refused-is (v .result) _ is (c .before .r .given .1))))
 
 read-layout-requires : tie.Need-read-layout-requires
 read-layout-requires c κs =
@@ -44,21 +36,26 @@ read-layout-requires c κs =
 returns-3 : tie.Need-returns-3
 unfolding outcome
 returns-3 c =
-    let s = c .before .before .before .before .before .before .before .args .index .now in
-    let v = c .before .before .before .check-footer in
-    let is = v .ensures ∙ ap footerCheck (c .before .before .before .before .footer .ensures .0) in
-    rw (c .read-layout .ensures ∙ ap layoutFrom (c .before .before .before .before .footer .ensures .0))
-    (sym (after-quiet _ (skip (quiet index-short 0 refl (le-ltb (length s) 28 (c .before .before .before .before .before .if1 .left))) (passed-is (v .result) _ is (c .before .enum-told .given .1)))))
+    let check-footer = c .before .before .before in
+    let footer = check-footer .before in
+    let else1 = footer .before in
+    let start = else1 .before .before in
+    let s = start .args .index .now in
+    let v = check-footer .check-footer in
+    let is = v .ensures ∙ ap footerCheck (footer .footer .ensures .0) in
+    rw (c .read-layout .ensures ∙ ap layoutFrom (footer .footer .ensures .0))
+    (sym (after-quiet _ (skip (quiet index-short 0 refl (le-ltb (length s) 28 (else1 .if1 .left)))
+    (passed-is (v .result) _ is (c .before .enum-told .given .1)))))
 
 pub read-footer-spec : {M : Type 1} → statement M
 read-footer-spec =
     tie.close
     (tie.spec
     returns
-    footer-requires
-    check-footer-requires
-    enum-known-r
+    (λ c κs. search needs)
+    (λ c κs. search needs)
+    (λ c. search needs)
     returns-2
-    enum-told
+    (λ c. search needs)
     read-layout-requires
     returns-3)

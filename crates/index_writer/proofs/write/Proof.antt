@@ -18,85 +18,81 @@ use borrow.Author.Needs.{needs}
 use Rattle.index_writer.proofs.write.Statement.{statement}
 use Rattle.index_writer.proofs.write.Tie as tie
 
-judge-requires : tie.Need-judge-requires
-judge-requires c κs = search needs
-
-enum-known-r : tie.Need-enum-known-r
-enum-known-r c = search needs
-
-enum-known-l : tie.Need-enum-known-l
-enum-known-l c = search needs
-
-length-requires : tie.Need-length-requires
-length-requires c κs = search needs
-
 returns : tie.Need-returns
 unfolding writtenOutcome filled
 returns c =
-    let a = c .before .before .before .before .before .before .before .before .args in
+    let l = c .before .before .before in
+    let judge = l .before .before in
+    let start = judge .before .before .before in
+    let a = start .args in
     let s = a .settings in
     let t = a .list .now in
     let out = a .output .now in
-    let v = c .before .before .before .before .before .judge in
-    let i = passed-index (inputCheck s t) _ (layoutFor s t) (v .result) (v .ensures) (c .before .before .before .l .given .1) in
+    let v = judge .judge in
+    let i = passed-index (inputCheck s t) _ (layoutFor s t) (v .result) (v .ensures) (l .l .given .1) in
     let size = c .before .length .ensures ∙ ap indexLength (i .1) in
     let e = no-room s t (length out) (i .0) (rw size at (c .if1 .taken)) in
     (sym (after-said _ e), sym (ap (λ k. filled k (fileOf t (layoutFor s t)) out) e))
 
 write-file-requires : tie.Need-write-file-requires
 write-file-requires c κs =
-    let a = c .before .before .before .before .before .before .before .before .before .args in
+    let l-at = c .before .before .before .before in
+    let judge = l-at .before .before in
+    let start = judge .before .before .before in
+    let a = start .args in
     let s = a .settings in
     let t = a .list .now in
     let out = a .output .now in
-    let v = c .before .before .before .before .before .before .judge in
-    let i = passed-index (inputCheck s t) _ (layoutFor s t) (v .result) (v .ensures) (c .before .before .before .before .l .given .1) in
+    let v = judge .judge in
+    let i = passed-index (inputCheck s t) _ (layoutFor s t) (v .result) (v .ensures) (l-at .l .given .1) in
     let size = c .before .before .length .ensures ∙ ap indexLength (i .1) in
     let p = passed s t (length out) (room-left s t (length out) (i .0) (rw size at (c .before .if1 .left))) in
     (subst (Held t) (sym (i .1)) (held s t (length out) p), subst (λ l. indexLength l ≤ length out) (sym (i .1)) (p .fits))
 
-length-requires-2 : tie.Need-length-requires-2
-length-requires-2 c κs = search needs
-
 returns-2 : tie.Need-returns-2
 unfolding writtenOutcome filled writeCheck
 returns-2 c =
-    let a = c .before .before .before .before .before .before .args in
+    let judge = c .before .before .before in
+    let start = judge .before .before .before in
+    let a = start .args in
     let s = a .settings in
     let t = a .list .now in
-    let v = c .before .before .before .judge in
+    let v = judge .judge in
     let e = first-said _ (refused-index (inputCheck s t) (layoutFor s t) (v .result) (v .ensures) (c .before .r .given .1)) in
     (sym (after-said _ e), sym (ap (λ k. filled k (fileOf t (layoutFor s t)) (a .output .now)) e))
-
-same-length : tie.Need-same-length
-same-length c = search needs
 
 returns-3 : tie.Need-returns-3
 unfolding writtenOutcome
 returns-3 c =
-    let a = c .before .before .before .before .before .before .before .before .before .before .before .before .before .args in
+    let write-file = c .before .before .before in
+    let else1 = write-file .before .before in
+    let length-at = else1 .before in
+    let l-at = length-at .before .before in
+    let judge = l-at .before .before in
+    let start = judge .before .before .before in
+    let a = start .args in
     let s = a .settings in
     let t = a .list .now in
     let out = a .output .now in
-    let v = c .before .before .before .before .before .before .before .before .before .before .judge in
-    let i = passed-index (inputCheck s t) _ (layoutFor s t) (v .result) (v .ensures) (c .before .before .before .before .before .before .before .before .l .given .1) in
-    let size = c .before .before .before .before .before .before .length .ensures ∙ ap indexLength (i .1) in
-    let e = room-left s t (length out) (i .0) (rw size at (c .before .before .before .before .before .if1 .left)) in (
+    let v = judge .judge in
+    let i = passed-index (inputCheck s t) _ (layoutFor s t) (v .result) (v .ensures) (l-at .l .given .1) in
+    let size = length-at .length .ensures ∙ ap indexLength (i .1) in
+    let e = room-left s t (length out) (i .0) (rw size at (else1 .if1 .left)) in (
       ap (λ n. answered (n ∷ [])) (c .length2 .ensures ∙ ap indexLength (i .1)) ∙ sym (after-quiet _ e),
-      c .before .before .before .write-file .ensures ∙ ap (λ l. filled silent (fileOf t l) out) (i .1) ∙ sym (ap (λ k. filled k (fileOf t (layoutFor s t)) out) e),
+      write-file .write-file .ensures ∙ ap (λ l. filled silent (fileOf t l) out) (i .1) ∙ sym (ap (λ k. filled k (fileOf t (layoutFor s t)) out) e),
     )
 
 pub write-spec : {M : Type 1} → statement M
 write-spec =
     tie.close
     (tie.spec
-    judge-requires
-    enum-known-r
-    enum-known-l
-    length-requires
+    (λ c κs. search needs)
+    (λ c. search needs)
+    (λ c. search needs)
+    (λ c κs. search needs)
     returns
     write-file-requires
-    length-requires-2
+    (λ c κs. search needs)
     returns-2
-    same-length
+    (λ c. search needs)
     returns-3)

@@ -20,15 +20,13 @@ returns c =
     let s = c .before .before .args .input .now in
     sym (after-said (answered (layoutValues (layoutOf s))) (first-said (fullCheck s) (said refl (lt-ltb 65536 (length s) (omega arith)))))
 
-check-requires : tie.Need-check-requires
-check-requires c κs = search needs
-
 returns-2 : tie.Need-returns-2
 unfolding listingCheck
 returns-2 c =
     let s = c .before .before .before .args .input .now in
     c .check .ensures
-    ∙ sym (ap (λ k. after k (answered (layoutValues (layoutOf s)))) (first-quiet (fullCheck s) (quiet listing-input 0 refl (le-ltb 65536 (length s) (omega arith)))))
+    ∙ sym (ap (λ k. after k (answered (layoutValues (layoutOf s)))) (first-quiet (fullCheck s)
+    (quiet listing-input 0 refl (le-ltb 65536 (length s) (omega arith)))))
 
 pub check-spec : {M : Type 1} → statement M
-check-spec = tie.close (tie.spec returns check-requires returns-2)
+check-spec = tie.close (tie.spec returns (λ c κs. search needs) returns-2)

@@ -18,9 +18,6 @@ Inv-loop index l page output₀ at count to₀ i₀ output to i =
 abbrev μ-loop : tie.MeasureT-loop
 μ-loop index l page output₀ at count to₀ i₀ output to i = count - i
 
-on-page-requires : tie.Need-on-page-requires Inv-loop μ-loop
-on-page-requires c κs = search needs
-
 loop-holds : tie.Need-loop-holds Inv-loop μ-loop
 unfolding partsFrom
 loop-holds c = (search needs, put-none _ _ (search needs))
@@ -30,17 +27,10 @@ cast-t10 c =
     let start = c .before .before .before .before .before in
     omega (arith, c .before .before .on-page .ensures, on-page-most (start .args .l) (start .args .page .0))
 
-put-line-requires : tie.Need-put-line-requires Inv-loop μ-loop
-put-line-requires c κs = search needs
-
-add-i : tie.Need-add-i Inv-loop μ-loop
-add-i c = search needs
-
-loop-less : tie.Need-loop-less Inv-loop μ-loop
-loop-less c = search needs
-
 loop-again : tie.Need-loop-again Inv-loop μ-loop
-loop-again c = (search needs, put-part _ _ (search needs) (c .before .before .before .before .before .loop .inv .1) (told _ _ _ _ _ (c .before .before .put-line .ensures)))
+loop-again c =
+    let loop = c .before .before .before .before .before in
+    (search needs, put-part _ _ (search needs) (loop .loop .inv .1) (told _ _ _ _ _ (c .before .before .put-line .ensures)))
 
 same-length : tie.Need-same-length Inv-loop μ-loop
 same-length c = put-length (c .before .loop .inv .1)
@@ -59,12 +49,12 @@ put-page-spec =
     (tie.spec
     Inv-loop
     μ-loop
-    on-page-requires
+    (λ c κs. search needs)
     loop-holds
     cast-t10
-    put-line-requires
-    add-i
-    loop-less
+    (λ c κs. search needs)
+    (λ c. search needs)
+    (λ c. search needs)
     loop-again
     same-length
     returns)

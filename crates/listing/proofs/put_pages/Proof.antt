@@ -20,17 +20,10 @@ loop-holds : tie.Need-loop-holds Inv-loop μ-loop
 unfolding partsFrom
 loop-holds c = (search needs, put-none _ _ (search needs))
 
-put-page-requires : tie.Need-put-page-requires Inv-loop μ-loop
-put-page-requires c κs = search needs
-
-add-p : tie.Need-add-p Inv-loop μ-loop
-add-p c = search needs
-
-loop-less : tie.Need-loop-less Inv-loop μ-loop
-loop-less c = search needs
-
 loop-again : tie.Need-loop-again Inv-loop μ-loop
-loop-again c = (search needs, put-part _ _ (search needs) (c .before .before .before .before .before .loop .inv .1) (told _ _ _ _ _ (c .before .before .put-page .ensures)))
+loop-again c =
+    let loop = c .before .before .before .before .before in
+    (search needs, put-part _ _ (search needs) (loop .loop .inv .1) (told _ _ _ _ _ (c .before .before .put-page .ensures)))
 
 same-length : tie.Need-same-length Inv-loop μ-loop
 same-length c = put-length (c .before .loop .inv .1)
@@ -50,9 +43,9 @@ put-pages-spec =
     Inv-loop
     μ-loop
     loop-holds
-    put-page-requires
-    add-p
-    loop-less
+    (λ c κs. search needs)
+    (λ c. search needs)
+    (λ c. search needs)
     loop-again
     same-length
     returns)

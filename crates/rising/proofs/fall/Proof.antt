@@ -20,61 +20,56 @@ abbrev μ-loop : tie.MeasureT-loop
 loop-holds : tie.Need-loop-holds Inv-loop μ-loop
 loop-holds c = (search needs, refl)
 
-skip-requires : tie.Need-skip-requires Inv-loop μ-loop
-skip-requires c κs = search needs
-
 returns : tie.Need-returns Inv-loop μ-loop
 returns c =
-    let a = c .before .before .before .before .before .args in
+    let loop = c .before .before .before in
+    let start = loop .before .before in
+    let a = start .args in
     let k = c .before .skip in
-    sym (c .before .before .before .loop .inv .1 ∙ k .ensures .same ∙ none-left (a .keys .now) (a .stride) (a .width) (k .result) (a .count) (c .if1 .taken))
-
-cast-at : tie.Need-cast-at Inv-loop μ-loop
-cast-at c = search needs
+    sym (loop .loop .inv .1 ∙ k .ensures .same ∙ none-left (a .keys .now) (a .stride) (a .width) (k .result) (a .count) (c .if1 .taken))
 
 mul-at : tie.Need-mul-at Inv-loop μ-loop
 mul-at c =
-    omega (arith, at-fits (c .before .skip .result) (c .before .before .before .before .before .args .stride) (omega arith) (omega arith))
+    let start = c .before .before .before .before .before in
+    omega (arith, at-fits (c .before .skip .result) (start .args .stride) (omega arith) (omega arith))
 
 sub-part : tie.Need-sub-part Inv-loop μ-loop
 sub-part c =
-    at-least (c .before .skip .result) (c .before .before .before .before .before .args .stride) (omega (arith, c .before .skip .ensures .forward))
-
-part-requires : tie.Need-part-requires Inv-loop μ-loop
-part-requires c κs = search needs
-
-part-requires-2 : tie.Need-part-requires-2 Inv-loop μ-loop
-part-requires-2 c κs = search needs
-
-rises-requires : tie.Need-rises-requires Inv-loop μ-loop
-rises-requires c κs = search needs
+    let start = c .before .before .before .before .before in
+    at-least (c .before .skip .result) (start .args .stride) (omega (arith, c .before .skip .ensures .forward))
 
 returns-2 : tie.Need-returns-2 Inv-loop μ-loop
 returns-2 c =
-    let a = c .before .before .before .before .before .before .before .before .before .args in
-    let k = c .before .before .before .before .before .skip in
+    let part = c .before .before .before in
+    let else1 = part .before in
+    let skip = else1 .before in
+    let loop = skip .before .before in
+    let start = loop .before .before in
+    let a = start .args in
+    let k = skip .skip in
     let i = k .result in
-    let before = c .before .before .before .part .ensures .0 ∙ ap (λ n. partAt (a .keys .now) n (a .width)) (before-at i (a .stride) (omega (arith, k .ensures .forward))) in
-    let told = told-at (a .keys .now) (a .stride) (a .width) i _ _ (c .before .rises .result) (c .before .rises .ensures) before (c .before .before .part2 .ensures .0) in
-    sym (c .before .before .before .before .before .before .before .loop .inv .1 ∙ k .ensures .same
-    ∙ falls (a .keys .now) (a .stride) (a .width) i (a .count) (c .before .before .before .before .if1 .left) (told ∙ not-true _ (c .if2 .taken)))
-
-add-i : tie.Need-add-i Inv-loop μ-loop
-add-i c = search needs
-
-loop-less : tie.Need-loop-less Inv-loop μ-loop
-loop-less c = search needs
+    let before = part .part .ensures .0 ∙ ap (λ n. partAt (a .keys .now) n (a .width)) (before-at i (a .stride) (omega (arith, k .ensures .forward))) in
+    let told = told-at (a .keys .now) (a .stride) (a .width) i _ _ (c .before .rises .result)
+    (c .before .rises .ensures) before (c .before .before .part2 .ensures .0) in
+    sym (loop .loop .inv .1 ∙ k .ensures .same
+    ∙ falls (a .keys .now) (a .stride) (a .width) i (a .count) (else1 .if1 .left) (told ∙ not-true _ (c .if2 .taken)))
 
 loop-again : tie.Need-loop-again Inv-loop μ-loop
 loop-again c =
-    let a = c .before .before .before .before .before .before .before .before .before .args in
-    let k = c .before .before .before .before .before .skip in
+    let part = c .before .before .before in
+    let else1 = part .before in
+    let skip = else1 .before in
+    let loop = skip .before .before in
+    let start = loop .before .before in
+    let a = start .args in
+    let k = skip .skip in
     let i = k .result in
-    let before = c .before .before .before .part .ensures .0 ∙ ap (λ n. partAt (a .keys .now) n (a .width)) (before-at i (a .stride) (omega (arith, k .ensures .forward))) in
-    let told = told-at (a .keys .now) (a .stride) (a .width) i _ _ (c .before .rises .result) (c .before .rises .ensures) before (c .before .before .part2 .ensures .0) in (
+    let before = part .part .ensures .0 ∙ ap (λ n. partAt (a .keys .now) n (a .width)) (before-at i (a .stride) (omega (arith, k .ensures .forward))) in
+    let told = told-at (a .keys .now) (a .stride) (a .width) i _ _ (c .before .rises .result)
+    (c .before .rises .ensures) before (c .before .before .part2 .ensures .0) in (
       omega arith,
-      c .before .before .before .before .before .before .before .loop .inv .1 ∙ k .ensures .same
-          ∙ rises-on (a .keys .now) (a .stride) (a .width) i (a .count) (c .before .before .before .before .if1 .left) (told ∙ not-false _ (c .if2 .left)),
+      loop .loop .inv .1 ∙ k .ensures .same
+          ∙ rises-on (a .keys .now) (a .stride) (a .width) i (a .count) (else1 .if1 .left) (told ∙ not-false _ (c .if2 .left)),
     )
 
 returns-3 : tie.Need-returns-3 Inv-loop μ-loop
@@ -89,16 +84,16 @@ fall-spec =
     Inv-loop
     μ-loop
     loop-holds
-    skip-requires
+    (λ c κs. search needs)
     returns
-    cast-at
+    (λ c. search needs)
     mul-at
     sub-part
-    part-requires
-    part-requires-2
-    rises-requires
+    (λ c κs. search needs)
+    (λ c κs. search needs)
+    (λ c κs. search needs)
     returns-2
-    add-i
-    loop-less
+    (λ c. search needs)
+    (λ c. search needs)
     loop-again
     returns-3)

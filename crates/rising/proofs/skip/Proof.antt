@@ -34,27 +34,32 @@ returns-3 c = record { forward = le-refl _; within = omega arith; same = refl }
 
 mul-at : tie.Need-mul-at Inv-loop μ-loop
 mul-at c =
-    let a = c .before .before .before .before .args in
+    let start = c .before .before .before .before in
+    let a = start .args in
     omega (arith, at-fits (a .from) (a .stride) (omega arith) (omega arith))
 
 sub-eight : tie.Need-sub-eight Inv-loop μ-loop
 sub-eight c =
-    let a = c .before .before .before .before .args in
+    let start = c .before .before .before .before in
+    let a = start .args in
     omega (arith, at-least (a .from) (a .stride) (omega arith))
 
 eight-requires : tie.Need-eight-requires Inv-loop μ-loop
 eight-requires c κs =
-    let a = c .before .before .before .before .args in
+    let start = c .before .before .before .before in
+    let a = start .args in
     omega (arith, key-at (a .from) (a .stride) (a .count) (omega arith), at-least (a .from) (a .stride) (omega arith))
 
 loop-holds : tie.Need-loop-holds Inv-loop μ-loop
 loop-holds c =
-    let a = c .before .before .before .before .before .args in
+    let start = c .before .before .before .before .before in
+    let a = start .args in
     (search needs, omega arith, refl, c .eight .ensures ∙ ap (λ n. bigAt (a .keys .now) n 8) (before-at (a .from) (a .stride) (omega arith)), refl)
 
 eight-requires-2 : tie.Need-eight-requires-2 Inv-loop μ-loop
 eight-requires-2 c κs =
-    let a = c .before .before .before .before .before .before .before .args in
+    let start = c .before .before .before .before .before .before .before in
+    let a = start .args in
     let l = c .before .loop in
     omega (arith, l .inv .2, key-at (l .i) (a .stride) (a .count) (omega arith))
 
@@ -65,26 +70,31 @@ returns-4 c =
 
 add-at : tie.Need-add-at Inv-loop μ-loop
 add-at c =
-    let a = c .before .before .before .before .before .before .before .before .before .args in
-    let l = c .before .before .before .loop in
+    let loop = c .before .before .before in
+    let start = loop .before .before .before .before .before .before in
+    let a = start .args in
+    let l = loop .loop in
     omega (arith, l .inv .2, key-at (l .i) (a .stride) (a .count) (omega arith))
-
-add-i : tie.Need-add-i Inv-loop μ-loop
-add-i c = search needs
-
-loop-less : tie.Need-loop-less Inv-loop μ-loop
-loop-less c = search needs
 
 loop-again : tie.Need-loop-again Inv-loop μ-loop
 loop-again c =
-    let a = c .before .before .before .before .before .before .before .before .before .args in
+    let loop = c .before .before .before in
+    let else1 = loop .before .before .before .before in
+    let shared-slice-known = else1 .before in
+    let start = shared-slice-known .before in
+    let a = start .args in
     let s = a .keys .now in
-    let l = c .before .before .before .loop in
+    let l = loop .loop in
     let here = c .before .eight2 .ensures ∙ ap (λ n. bigAt s n 8) (l .inv .2) in
     let above : bigAt s ((l .i - 1) * a .stride) 8 < bigAt s (l .i * a .stride) 8 = rw (← l .inv .3, ← here) (c .if4 .left) in
-    let rises = eight-rises s (a .stride) (a .width) (l .i) (c .before .before .before .before .before .before .before .if1 .left) (λ j. c .before .before .before .before .before .before .before .before .shared-slice-known .given j .fits) above in
-    let back : l .i ≡ l .i + 1 - 1 = omega arith in
-    (omega arith, omega arith, omega (arith, l .inv .2, next-at (l .i) (a .stride)), here ∙ ap (λ j. bigAt s (j * a .stride) 8) back, l .inv .4 ∙ rises-on s (a .stride) (a .width) (l .i) (a .count) (omega arith) rises)
+    let rises = eight-rises s (a .stride) (a .width) (l .i) (else1 .if1 .left) (λ j. shared-slice-known .shared-slice-known .given j .fits) above in
+    let back : l .i ≡ l .i + 1 - 1 = omega arith in (
+      omega arith,
+      omega arith,
+      omega (arith, l .inv .2, next-at (l .i) (a .stride)),
+      here ∙ ap (λ j. bigAt s (j * a .stride) 8) back,
+      l .inv .4 ∙ rises-on s (a .stride) (a .width) (l .i) (a .count) (omega arith) rises,
+    )
 
 returns-5 : tie.Need-returns-5 Inv-loop μ-loop
 returns-5 c =
@@ -108,7 +118,7 @@ skip-spec =
     eight-requires-2
     returns-4
     add-at
-    add-i
-    loop-less
+    (λ c. search needs)
+    (λ c. search needs)
     loop-again
     returns-5)

@@ -14,9 +14,6 @@ use borrow.Author.Needs.{needs}
 use Rattle.index.proofs.pages.check_order.Statement.{statement}
 use Rattle.index.proofs.pages.check_order.Tie as tie
 
-on-page-requires : tie.Need-on-page-requires
-on-page-requires c κs = search needs
-
 returns : tie.Need-returns
 unfolding checkOf
 returns c =
@@ -24,47 +21,41 @@ returns c =
     let none : onPage (a .l) (a .page .0) ≡ 0 = sym (c .before .on-page .ensures) ∙ c .if1 .taken in
     rw none (sym (from-none (orderCheck (a .index .now) (a .l) (a .page .0)) 0))
 
-first-above-requires : tie.Need-first-above-requires
-first-above-requires c κs = search needs
-
-entry-number-requires : tie.Need-entry-number-requires
-entry-number-requires c κs = search needs
-
-refuse-requires : tie.Need-refuse-requires
-refuse-requires c κs = search needs
-
 returns-2 : tie.Need-returns-2
 returns-2 c =
-    let a = c .before .before .before .before .before .before .before .args in
+    let first-above = c .before .before .before in
+    let on-page = first-above .before .before in
+    let start = on-page .before .before in
+    let a = start .args in
     let p = a .page .0 in
     let n = onPage (a .l) p in
-    let some : 0 < n = rw (← c .before .before .before .before .before .on-page .ensures) (omega arith) in
+    let some : 0 < n = rw (← on-page .on-page .ensures) (omega arith) in
     c .refuse .ensures ∙ ap (refused index-order) (c .before .entry-number .ensures)
-    ∙ sym (order-said (a .index .now) (a .l) p 0 n (c .before .before .before .first-above .result) some (c .before .before .before .first-above .ensures) (c .before .before .if2 .taken))
+    ∙ sym (order-said (a .index .now) (a .l) p 0 n (first-above .first-above .result) some (first-above .first-above .ensures) (c .before .before .if2 .taken))
     ∙ ap (firstFrom (orderCheck (a .index .now) (a .l) p) 0) (sub-zero n)
-
-check-rest-requires : tie.Need-check-rest-requires
-check-rest-requires c κs = search needs
 
 returns-3 : tie.Need-returns-3
 returns-3 c =
-    let a = c .before .before .before .before .before .before .args in
+    let on-page = c .before .before .before .before in
+    let start = on-page .before .before in
+    let a = start .args in
     let p = a .page .0 in
     let n = onPage (a .l) p in
-    let some : 0 < n = rw (← c .before .before .before .before .on-page .ensures) (omega arith) in
+    let some : 0 < n = rw (← on-page .on-page .ensures) (omega arith) in
     c .check-rest .ensures
-    ∙ sym (order-quiet (a .index .now) (a .l) p 0 n (c .before .before .first-above .result) some (c .before .before .first-above .ensures) (c .before .if2 .left))
+    ∙ sym (order-quiet (a .index .now) (a .l) p 0 n (c .before .before .first-above .result) some
+    (c .before .before .first-above .ensures) (c .before .if2 .left))
     ∙ ap (firstFrom (orderCheck (a .index .now) (a .l) p) 0) (sub-zero n)
 
 pub check-order-spec : {M : Type 1} → statement M
 check-order-spec =
     tie.close
     (tie.spec
-    on-page-requires
+    (λ c κs. search needs)
     returns
-    first-above-requires
-    entry-number-requires
-    refuse-requires
+    (λ c κs. search needs)
+    (λ c κs. search needs)
+    (λ c κs. search needs)
     returns-2
-    check-rest-requires
+    (λ c κs. search needs)
     returns-3)

@@ -20,81 +20,75 @@ abbrev μ-loop : tie.MeasureT-loop
 loop-holds : tie.Need-loop-holds Inv-loop μ-loop
 loop-holds c = (search needs, rw sub-zero)
 
-page-hashes-requires : tie.Need-page-hashes-requires Inv-loop μ-loop
-page-hashes-requires c κs = search needs
-
-slice-aggregate-check-page : tie.Need-slice-aggregate-check-page Inv-loop μ-loop
-slice-aggregate-check-page c = search needs
-
 check-page-requires : tie.Need-check-page-requires Inv-loop μ-loop
 check-page-requires c κs = c .before .before .page-hashes .ensures .0
 
-enum-told : tie.Need-enum-told Inv-loop μ-loop
-enum-told c = search needs
+abbrev start-at : tie.In-loop Inv-loop μ-loop → tie.Start Inv-loop μ-loop
+start-at c = c .before .before .before
+
+-- the first page of a turn passed: those after it are left
+abbrev turn-at : tie.After-enum-told2 Inv-loop μ-loop → tie.In-loop Inv-loop μ-loop
+turn-at c = c .before .before .before .before .before .before
+
+first-passed : (c : tie.After-enum-told2 Inv-loop μ-loop)
+    → firstFrom (pageCheck (start-at (turn-at c) .args .index .now) (start-at (turn-at c) .args .l)) 0 (start-at (turn-at c) .args .l .pages)
+    ≡ firstFrom (pageCheck (start-at (turn-at c) .args .index .now) (start-at (turn-at c) .args .l)) (turn-at c .before .loop .p + 1)
+    (start-at (turn-at c) .args .l .pages - (turn-at c .before .loop .p + 1))
+first-passed c =
+    let turn = turn-at c in
+    let a = start-at turn .args in
+    let l = turn .before .loop in
+    let v = c .before .before .check-page in
+    l .inv .1 ∙ upto-quiet (pageCheck (a .index .now) (a .l)) (l .p) (a .l .pages) (turn .loop-test .taken)
+    (passed-is (v .result) _ (v .ensures) (c .enum-told2 .given .1))
 
 returns : tie.Need-returns Inv-loop μ-loop
 unfolding checkOf pagesCheck
 returns c =
-    let l = c .before .before .before .before .before .before .before .loop in
-    let a = c .before .before .before .before .before .before .before .before .before .args in
+    let turn = c .before .before .before .before .before .before in
+    let a = start-at turn .args in
+    let l = turn .before .loop in
     let v = c .before .before .check-page in
     let r = c .enum-told .given in
-    rw (r .1) (sym (l .inv .1 ∙ upto-said (pageCheck (a .index .now) (a .l)) (l .p) (a .l .pages) (c .before .before .before .before .before .before .loop-test .taken) (refused-is (v .result) _ (v .ensures) (r .1))))
-
-enum-told-2 : tie.Need-enum-told-2 Inv-loop μ-loop
-enum-told-2 c = search needs
-
-add-next : tie.Need-add-next Inv-loop μ-loop
-add-next c = search needs
+    rw (r .1) (sym (l .inv .1 ∙ upto-said (pageCheck (a .index .now) (a .l)) (l .p) (a .l .pages) (turn .loop-test .taken)
+    (refused-is (v .result) _ (v .ensures) (r .1))))
 
 returns-2 : tie.Need-returns-2 Inv-loop μ-loop
 unfolding checkOf pagesCheck
 returns-2 c =
-    let l = c .before .before .before .before .before .before .before .before .loop in
-    let a = c .before .before .before .before .before .before .before .before .before .before .args in
-    let v = c .before .before .before .check-page in
-    sym (l .inv .1 ∙ upto-quiet (pageCheck (a .index .now) (a .l)) (l .p) (a .l .pages) (c .before .before .before .before .before .before .before .loop-test .taken) (passed-is (v .result) _ (v .ensures) (c .before .enum-told2 .given .1))
-    ∙ upto-end (pageCheck (a .index .now) (a .l)) (l .p + 1) (a .l .pages) (c .if1 .taken))
-
-slice-aggregate-check-page-2 : tie.Need-slice-aggregate-check-page-2 Inv-loop μ-loop
-slice-aggregate-check-page-2 c = search needs
+    let turn = turn-at (c .before) in
+    let a = start-at turn .args in
+    sym (first-passed (c .before) ∙ upto-end (pageCheck (a .index .now) (a .l)) (turn .before .loop .p + 1) (a .l .pages) (c .if1 .taken))
 
 check-page-requires-2 : tie.Need-check-page-requires-2 Inv-loop μ-loop
-check-page-requires-2 c κs = c .before .before .before .before .before .before .before .before .page-hashes .ensures .1
-
-enum-told-3 : tie.Need-enum-told-3 Inv-loop μ-loop
-enum-told-3 c = search needs
+check-page-requires-2 c κs =
+    let first-told = c .before .before .before in
+    let page-hashes = first-told .before .before .before .before .before in
+    page-hashes .page-hashes .ensures .1
 
 returns-3 : tie.Need-returns-3 Inv-loop μ-loop
 unfolding checkOf pagesCheck
 returns-3 c =
-    let l = c .before .before .before .before .before .before .before .before .before .before .before .before .before .loop in
-    let a = c .before .before .before .before .before .before .before .before .before .before .before .before .before .before .before .args in
-    let u = c .before .before .before .before .before .before .before .before .check-page in
+    let else1 = c .before .before .before .before .before in
+    let turn = turn-at (else1 .before) in
+    let a = start-at turn .args in
     let v = c .before .before .check-page2 in
-    let one = l .inv .1 ∙ upto-quiet (pageCheck (a .index .now) (a .l)) (l .p) (a .l .pages) (c .before .before .before .before .before .before .before .before .before .before .before .before .loop-test .taken) (passed-is (u .result) _ (u .ensures) (c .before .before .before .before .before .before .enum-told2 .given .1)) in
     let r = c .enum-told3 .given in
-    rw (r .1) (sym (one ∙ upto-said (pageCheck (a .index .now) (a .l)) (l .p + 1) (a .l .pages) (c .before .before .before .before .before .if1 .left) (refused-is (v .result) _ (v .ensures) (r .1))))
-
-enum-told-4 : tie.Need-enum-told-4 Inv-loop μ-loop
-enum-told-4 c = search needs
-
-add-p : tie.Need-add-p Inv-loop μ-loop
-add-p c = search needs
-
-loop-less : tie.Need-loop-less Inv-loop μ-loop
-loop-less c = search needs
+    rw (r .1) (sym (first-passed (else1 .before) ∙ upto-said (pageCheck (a .index .now) (a .l)) (turn .before .loop .p + 1) (a .l .pages) (else1 .if1 .left)
+    (refused-is (v .result) _ (v .ensures) (r .1))))
 
 loop-again : tie.Need-loop-again Inv-loop μ-loop
 loop-again c =
-    let l = c .before .before .before .before .before .before .before .before .before .before .before .before .before .loop in
-    let a = c .before .before .before .before .before .before .before .before .before .before .before .before .before .before .before .args in
-    let u = c .before .before .before .before .before .before .before .before .check-page in
+    let else1 = c .before .before .before .before .before in
+    let turn = turn-at (else1 .before) in
+    let a = start-at turn .args in
+    let p = turn .before .loop .p in
     let v = c .before .before .check-page2 in
-    let one = l .inv .1 ∙ upto-quiet (pageCheck (a .index .now) (a .l)) (l .p) (a .l .pages) (c .before .before .before .before .before .before .before .before .before .before .before .before .loop-test .taken) (passed-is (u .result) _ (u .ensures) (c .before .before .before .before .before .before .enum-told2 .given .1)) in
-    let two : l .p + 1 + 1 ≡ l .p + 2 = omega arith in (
+    let two : turn .before .loop .p + 1 + 1 ≡ turn .before .loop .p + 2 = omega arith in (
       omega arith,
-      one ∙ upto-quiet (pageCheck (a .index .now) (a .l)) (l .p + 1) (a .l .pages) (c .before .before .before .before .before .if1 .left) (passed-is (v .result) _ (v .ensures) (c .enum-told4 .given .1))
+      first-passed (else1 .before)
+          ∙ upto-quiet (pageCheck (a .index .now) (a .l)) (p + 1) (a .l .pages) (else1 .if1 .left)
+          (passed-is (v .result) _ (v .ensures) (c .enum-told4 .given .1))
           ∙ ap (λ i. firstFrom (pageCheck (a .index .now) (a .l)) i (a .l .pages - i)) two,
     )
 
@@ -112,20 +106,20 @@ check-pages-spec =
     Inv-loop
     μ-loop
     loop-holds
-    page-hashes-requires
-    slice-aggregate-check-page
+    (λ c κs. search needs)
+    (λ c. search needs)
     check-page-requires
-    enum-told
+    (λ c. search needs)
     returns
-    enum-told-2
-    add-next
+    (λ c. search needs)
+    (λ c. search needs)
     returns-2
-    slice-aggregate-check-page-2
+    (λ c. search needs)
     check-page-requires-2
-    enum-told-3
+    (λ c. search needs)
     returns-3
-    enum-told-4
-    add-p
-    loop-less
+    (λ c. search needs)
+    (λ c. search needs)
+    (λ c. search needs)
     loop-again
     returns-4)

@@ -12,63 +12,51 @@ use borrow.Author.Needs.{needs}
 use Rattle.index.proofs.pages.check_rest.Statement.{statement}
 use Rattle.index.proofs.pages.check_rest.Tie as tie
 
-on-page-requires : tie.Need-on-page-requires
-on-page-requires c κs = search needs
-
 cast-count : tie.Need-cast-count
 cast-count c =
     let a = c .before .before .args in
     omega (arith, on-page-most (a .l) (a .page .0), c .on-page .ensures)
 
-entry-size-requires : tie.Need-entry-size-requires
-entry-size-requires c κs = search needs
-
-cast-size : tie.Need-cast-size
-cast-size c = search needs
-
-page-at-requires : tie.Need-page-at-requires
-page-at-requires c κs = search needs
-
-part-requires : tie.Need-part-requires
-part-requires c κs = search needs
-
-fall-requires : tie.Need-fall-requires
-fall-requires c κs = search needs
-
-entry-number-requires : tie.Need-entry-number-requires
-entry-number-requires c κs = search needs
-
-refuse-requires : tie.Need-refuse-requires
-refuse-requires c κs = search needs
-
 returns : tie.Need-returns
 returns c =
-    let a = c .before .before .before .before .before .before .before .before .before .args in
-    let f = c .before .before .before .fall in
+    let fall = c .before .before .before in
+    let part = fall .before in
+    let page-at = part .before in
+    let entry-size = page-at .before in
+    let on-page = entry-size .before in
+    let start = on-page .before .before in
+    let a = start .args in
+    let f = fall .fall in
     c .refuse .ensures ∙ ap (refused index-order) (c .before .entry-number .ensures)
-    ∙ sym (rest-said (a .index .now) (a .l) (a .page .0) _ _ _ (f .result) (c .before .before .before .before .part .ensures .0 ∙ ap (λ at. partAt (a .index .now) at pageSize) (c .before .before .before .before .before .page-at .ensures)) (c .before .before .before .before .before .before .entry-size .ensures .0)
-    (c .before .before .before .before .before .before .before .on-page .ensures) (f .ensures) (c .before .before .if1 .taken))
+    ∙ sym (rest-said (a .index .now) (a .l) (a .page .0) _ _ _ (f .result)
+    (part .part .ensures .0 ∙ ap (λ at. partAt (a .index .now) at pageSize) (page-at .page-at .ensures)) (entry-size .entry-size .ensures .0)
+    (on-page .on-page .ensures) (f .ensures) (c .before .before .if1 .taken))
 
 returns-2 : tie.Need-returns-2
 unfolding checkOf
 returns-2 c =
-    let a = c .before .before .before .before .before .before .before .args in
+    let page-at = c .before .before .before in
+    let entry-size = page-at .before in
+    let on-page = entry-size .before in
+    let start = on-page .before .before in
+    let a = start .args in
     let f = c .before .fall in
-    sym (rest-quiet (a .index .now) (a .l) (a .page .0) _ _ _ (f .result) (c .before .before .part .ensures .0 ∙ ap (λ at. partAt (a .index .now) at pageSize) (c .before .before .before .page-at .ensures)) (c .before .before .before .before .entry-size .ensures .0)
-    (c .before .before .before .before .before .on-page .ensures) (f .ensures) (c .if1 .left))
+    sym (rest-quiet (a .index .now) (a .l) (a .page .0) _ _ _ (f .result)
+    (c .before .before .part .ensures .0 ∙ ap (λ at. partAt (a .index .now) at pageSize) (page-at .page-at .ensures)) (entry-size .entry-size .ensures .0)
+    (on-page .on-page .ensures) (f .ensures) (c .if1 .left))
 
 pub check-rest-spec : {M : Type 1} → statement M
 check-rest-spec =
     tie.close
     (tie.spec
-    on-page-requires
+    (λ c κs. search needs)
     cast-count
-    entry-size-requires
-    cast-size
-    page-at-requires
-    part-requires
-    fall-requires
-    entry-number-requires
-    refuse-requires
+    (λ c κs. search needs)
+    (λ c. search needs)
+    (λ c κs. search needs)
+    (λ c κs. search needs)
+    (λ c κs. search needs)
+    (λ c κs. search needs)
+    (λ c κs. search needs)
     returns
     returns-2)

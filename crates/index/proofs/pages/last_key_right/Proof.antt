@@ -9,47 +9,30 @@ use borrow.Author.Needs.{needs}
 use Rattle.index.proofs.pages.last_key_right.Statement.{statement}
 use Rattle.index.proofs.pages.last_key_right.Tie as tie
 
-last-slot-requires : tie.Need-last-slot-requires
-last-slot-requires c κs = search needs
-
-entry-at-requires : tie.Need-entry-at-requires
-entry-at-requires c κs = search needs
-
-cast-key : tie.Need-cast-key
-cast-key c = search needs
-
-last-key-at-requires : tie.Need-last-key-at-requires
-last-key-at-requires c κs = search needs
-
-part-requires : tie.Need-part-requires
-part-requires c κs = search needs
-
-part-requires-2 : tie.Need-part-requires-2
-part-requires-2 c κs = search needs
-
-equal-requires : tie.Need-equal-requires
-equal-requires c κs = search needs
-
 returns : tie.Need-returns
 unfolding lastKeyCheck
 returns c =
-    let a = c .before .before .before .before .before .before .before .before .args in
+    let last-key-at = c .before .before .before in
+    let entry-at = last-key-at .before .before in
+    let last-slot = entry-at .before in
+    let start = last-slot .before .before in
+    let a = start .args in
     let l = a .l in
     let p = a .page .0 in
-    let slot = c .before .before .before .before .before .before .last-slot .ensures in
+    let slot = last-slot .last-slot .ensures in
     hash-told _ _ _ _ (c .equal .result) last-key p (c .equal .ensures)
-    (c .before .before .part .ensures .0 ∙ ap (λ at. partAt (a .index .now) at (l .«key_length»)) (c .before .before .before .last-key-at .ensures))
-    (c .before .part2 .ensures .0 ∙ ap (λ at. partAt (a .index .now) at (l .«key_length»)) (c .before .before .before .before .before .entry-at .ensures ∙ ap (entryAt l p) slot))
+    (c .before .before .part .ensures .0 ∙ ap (λ at. partAt (a .index .now) at (l .«key_length»)) (last-key-at .last-key-at .ensures))
+    (c .before .part2 .ensures .0 ∙ ap (λ at. partAt (a .index .now) at (l .«key_length»)) (entry-at .entry-at .ensures ∙ ap (entryAt l p) slot))
 
 pub last-key-right-spec : {M : Type 1} → statement M
 last-key-right-spec =
     tie.close
     (tie.spec
-    last-slot-requires
-    entry-at-requires
-    cast-key
-    last-key-at-requires
-    part-requires
-    part-requires-2
-    equal-requires
+    (λ c κs. search needs)
+    (λ c κs. search needs)
+    (λ c. search needs)
+    (λ c κs. search needs)
+    (λ c κs. search needs)
+    (λ c κs. search needs)
+    (λ c κs. search needs)
     returns)

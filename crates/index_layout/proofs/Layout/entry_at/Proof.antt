@@ -6,20 +6,19 @@ use borrow.Author.Needs.{needs}
 use Rattle.index_layout.proofs.Layout.entry_at.Statement.{statement}
 use Rattle.index_layout.proofs.Layout.entry_at.Tie as tie
 
-page-at-requires : tie.Need-page-at-requires
-page-at-requires c κs = search needs
-
-cast-result : tie.Need-cast-result
-cast-result c = search needs
-
-entry-size-requires : tie.Need-entry-size-requires
-entry-size-requires c κs = search needs
-
 mul-result : tie.Need-mul-result
-mul-result c = omega (arith, bound (c .before .before .before .args .slot .0) (c .entry-size .result) 4294967295 514 (omega arith) (omega arith), c .before .before .page-at .ensures)
+mul-result c = omega (
+  arith,
+  bound (c .before .before .before .args .slot .0) (c .entry-size .result) 4294967295 514 (omega arith) (omega arith),
+  c .before .before .page-at .ensures,
+)
 
 add-result : tie.Need-add-result
-add-result c = omega (arith, bound (c .before .before .before .args .slot .0) (c .entry-size .result) 4294967295 514 (omega arith) (omega arith), c .before .before .page-at .ensures)
+add-result c = omega (
+  arith,
+  bound (c .before .before .before .args .slot .0) (c .entry-size .result) 4294967295 514 (omega arith) (omega arith),
+  c .before .before .page-at .ensures,
+)
 
 returns : tie.Need-returns
 unfolding entryAt
@@ -28,4 +27,4 @@ returns c = rw (c .entry-size .ensures .0, c .before .before .page-at .ensures)
 pub entry-at-spec : {M : Type 1} → statement M
 entry-at-spec =
     tie.close
-    (tie.spec page-at-requires cast-result entry-size-requires mul-result add-result returns)
+    (tie.spec (λ c κs. search needs) (λ c. search needs) (λ c κs. search needs) mul-result add-result returns)

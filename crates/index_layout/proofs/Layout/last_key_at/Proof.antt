@@ -6,20 +6,21 @@ use borrow.Author.Needs.{needs}
 use Rattle.index_layout.proofs.Layout.last_key_at.Statement.{statement}
 use Rattle.index_layout.proofs.Layout.last_key_at.Tie as tie
 
-page-at-requires : tie.Need-page-at-requires
-page-at-requires c κs = search needs
-
-cast-result : tie.Need-cast-result
-cast-result c = search needs
-
-cast-result-2 : tie.Need-cast-result-2
-cast-result-2 c = search needs
-
 mul-result : tie.Need-mul-result
-mul-result c = omega (arith, bound (c .before .before .before .args .page .0) (c .before .before .before .args .self .«key_length») 4294967295 255 (omega arith) (omega arith), c .before .before .page-at .ensures)
+mul-result c = omega (
+  arith,
+  bound (c .before .before .before .args .page .0)
+      (c .before .before .before .args .self .«key_length») 4294967295 255 (omega arith) (omega arith),
+  c .before .before .page-at .ensures,
+)
 
 add-result : tie.Need-add-result
-add-result c = omega (arith, bound (c .before .before .before .args .page .0) (c .before .before .before .args .self .«key_length») 4294967295 255 (omega arith) (omega arith), c .before .before .page-at .ensures)
+add-result c = omega (
+  arith,
+  bound (c .before .before .before .args .page .0)
+      (c .before .before .before .args .self .«key_length») 4294967295 255 (omega arith) (omega arith),
+  c .before .before .page-at .ensures,
+)
 
 returns : tie.Need-returns
 unfolding lastKeyAt
@@ -27,4 +28,4 @@ returns c = rw (c .before .before .page-at .ensures)
 
 pub last-key-at-spec : {M : Type 1} → statement M
 last-key-at-spec =
-    tie.close (tie.spec page-at-requires cast-result cast-result-2 mul-result add-result returns)
+    tie.close (tie.spec (λ c κs. search needs) (λ c. search needs) (λ c. search needs) mul-result add-result returns)

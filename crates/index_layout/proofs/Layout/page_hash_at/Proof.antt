@@ -6,21 +6,14 @@ use borrow.Author.Needs.{needs}
 use Rattle.index_layout.proofs.Layout.page_hash_at.Statement.{statement}
 use Rattle.index_layout.proofs.Layout.page_hash_at.Tie as tie
 
-last-key-at-requires : tie.Need-last-key-at-requires
-last-key-at-requires c κs = search needs
-
-cast-result : tie.Need-cast-result
-cast-result c = search needs
-
-cast-result-2 : tie.Need-cast-result-2
-cast-result-2 c = search needs
-
-mul-result : tie.Need-mul-result
-mul-result c = search needs
-
 add-result : tie.Need-add-result
 unfolding lastKeyAt
-add-result c = omega (arith, bound (c .before .before .args .self .pages) (c .before .before .args .self .«key_length») 4294967295 255 (omega arith) (omega arith), c .before .last-key-at .ensures)
+add-result c = omega (
+  arith,
+  bound (c .before .before .args .self .pages) (c .before .before .args .self .«key_length») 4294967295 255
+      (omega arith) (omega arith),
+  c .before .last-key-at .ensures,
+)
 
 returns : tie.Need-returns
 unfolding pageHashAt
@@ -29,4 +22,4 @@ returns c = rw (c .before .last-key-at .ensures)
 pub page-hash-at-spec : {M : Type 1} → statement M
 page-hash-at-spec =
     tie.close
-    (tie.spec last-key-at-requires cast-result cast-result-2 mul-result add-result returns)
+    (tie.spec (λ c κs. search needs) (λ c. search needs) (λ c. search needs) (λ c. search needs) add-result returns)
