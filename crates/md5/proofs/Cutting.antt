@@ -47,7 +47,8 @@ pending-more : (m p : List ℕ)
     → cond (ltb (length m % 64 + length p) 64) (overlay (zeroFilled (rest m)) (length m % 64) p) (zeroFilled (rest (rest m ++ p))) ≡ zeroFilled (rest (m ++ p))
 pending-more m p = go (ltb (length m % 64 + length p) 64) refl
   where
-    go : (b : Bool) → ltb (length m % 64 + length p) 64 ≡ b → cond b (overlay (zeroFilled (rest m)) (length m % 64) p) (zeroFilled (rest (rest m ++ p))) ≡ zeroFilled (rest (m ++ p))
+    go : (b : Bool) → ltb (length m % 64 + length p) 64 ≡ b
+        → cond b (overlay (zeroFilled (rest m)) (length m % 64) p) (zeroFilled (rest (rest m ++ p))) ≡ zeroFilled (rest (m ++ p))
     go true e =
         let below : length m % 64 + length p < 64 = ltb-true _ _ e in
         let small : length (rest m ++ p) < 64 = rw (length-append, rest-length) below in

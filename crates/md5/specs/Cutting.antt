@@ -18,7 +18,8 @@ pub record Updates (s : Md5) (part : List ℕ) (r : Updated) : Type 0 where
 -- A run of updates: the state s, the parts with the answer to each, and the state at the end.
 pub data Run : Md5 → List (List ℕ) → List Updated → Md5 → Type 0 where
   done : {s : Md5} → Run s [] [] s
-  next : {s e : Md5} {part : List ℕ} {parts : List (List ℕ)} {r : Updated} {rs : List Updated} → Updates s part r → Run (r .state) parts rs e → Run s (part ∷ parts) (r ∷ rs) e
+  next : {s e : Md5} {part : List ℕ} {parts : List (List ℕ)} {r : Updated} {rs : List Updated}
+      → Updates s part r → Run (r .state) parts rs e → Run s (part ∷ parts) (r ∷ rs) e
 
 -- No answer of a run refuses.
 pub data AllPassed : List Updated → Type 0 where
@@ -35,7 +36,8 @@ joined (part ∷ parts) = part ++ joined parts
 pub record Cut (parts : List (List ℕ)) (rs : List Updated) (e : Md5) : Type 0 where
   pub passed : AllPassed rs
   pub digest : finished e ≡ md5 (joined parts)
-  pub limit : (part : List ℕ) (r : Updated) → 2 ^ 48 < length (joined parts) + length part → Updates e part r → (checkOf (r .verdict) ≡ refused hash-limit 0) × (r .state ≡ e)
+  pub limit : (part : List ℕ) (r : Updated) → 2 ^ 48 < length (joined parts) + length part → Updates e part r
+      → (checkOf (r .verdict) ≡ refused hash-limit 0) × (r .state ≡ e)
 
 -- Any cutting of at most 2^48 bytes, from the state that `Md5::new` answers (rule H13).
 abbrev pub AnyCutting : Type 0

@@ -69,7 +69,10 @@ module _ (t x : List ℕ) where
       → w16 ≡ steps t x 60 4 w15
       → w16 ≡ steps t x 0 64 v
   all-steps v e1 e2 e3 e4 e5 e6 e7 e8 e9 e10 e11 e12 e13 e14 e15 e16 =
-      more-four 60 v (more-four 56 v (more-four 52 v (more-four 48 v (more-four 44 v (more-four 40 v (more-four 36 v (more-four 32 v (more-four 28 v (more-four 24 v (more-four 20 v (more-four 16 v (more-four 12 v (more-four 8 v (more-four 4 v (e1) e2) e3) e4) e5) e6) e7) e8) e9) e10) e11) e12) e13) e14) e15) e16
+      more-four 60 v (more-four 56 v (more-four 52 v (more-four 48 v (more-four 44 v
+      (more-four 40 v (more-four 36 v (more-four 32 v (more-four 28 v (more-four 24 v
+      (more-four 20 v (more-four 16 v (more-four 12 v (more-four 8 v (more-four 4 v e1
+      e2) e3) e4) e5) e6) e7) e8) e9) e10) e11) e12) e13) e14) e15) e16
 
 -- the place of a step's shift amount, in a group of four
 pub row-start : (g : ℕ) → g % 16 * 4 / 16 * 4 ≡ g % 16 * 4 / 16 * 4 + g % 16 * 4 % 4

@@ -51,6 +51,7 @@ choice (suc k) b c d p q r =
     let e : 2 ^ suc k ≡ 2 ^ k * 2 = pow-suc 2 k in
     let half : (2 ^ suc k - 1 - b) / 2 ≡ 2 ^ k - 1 - b / 2 = omega arith in
     let odd : (2 ^ suc k - 1 - b) % 2 ≡ 1 - b % 2 = omega arith in
-    left b c d
-    ∙ join (choice k (b / 2) (c / 2) (d / 2) (omega arith) (omega arith) (omega arith)) (sym (bit (b % 2) (c % 2) (d % 2) (omega arith) (omega arith) (omega arith)))
+    let halves = choice k (b / 2) (c / 2) (d / 2) (omega arith) (omega arith) (omega arith) in
+    let bits = bit (b % 2) (c % 2) (d % 2) (omega arith) (omega arith) (omega arith) in
+    left b c d ∙ join halves (sym bits)
     ∙ sym (right b c d (2 ^ suc k - 1 - b) (2 ^ k - 1 - b / 2) (1 - b % 2) half odd)

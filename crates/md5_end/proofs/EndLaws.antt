@@ -8,7 +8,8 @@ use native.Mathlib.Numerals.{add-one}
 use native.Mathlib.Omega.{arith}
 use borrow.Author.Tests.{lt-ltb, le-ltb, ltb-true, ltb-false, leb-true, leb-false}
 use lib.Dec.{ltb, leb}
-use lib.ListN.{length, getD, take, drop, set, replicate, length-append, length-drop, length-replicate, take-append-drop, drop-of-length-le, replicate-append-replicate}
+use lib.ListN.{length, getD, take, drop, set, replicate, length-append, length-drop, length-replicate}
+use lib.ListN.{take-append-drop, drop-of-length-le, replicate-append-replicate}
 use lib.Seq.{drop-drop, take-append-le, take-append-seam, drop-append-add, drop-at, take-at, set-append-seam, take-all, length-take-le, drop-cons}
 use Rattle.parts.specs.Part.{overlay}
 use Rattle.parts.proofs.Laws.{overlay-inside, overlay-after, part-to-end}
@@ -152,7 +153,8 @@ whole-rest t s q w =
     let n : ℕ = length s / 64 in
     let small : length (rest s ++ []) < 64 = rw (append-nil, rest-length) (omega arith) in
     let first : whole t s w ≡ blocks t n (front s q) w =
-    ap (λ l. whole t l w) (sym (append-nil s) ∙ sym (all s [])) ∙ whole-append t n (front s []) (rest s ++ []) w (front-length s []) ∙ whole-none t (rest s ++ []) _ small in
+    ap (λ l. whole t l w) (sym (append-nil s) ∙ sym (all s []))
+    ∙ whole-append t n (front s []) (rest s ++ []) w (front-length s []) ∙ whole-none t (rest s ++ []) _ small in
     ap (λ l. whole t l w) (sym (all s q)) ∙ whole-append t n (front s q) (rest s ++ q) w (front-length s q) ∙ ap (whole t (rest s ++ q)) (sym first)
 
 pub rest-append : (s q : List ℕ) → rest (s ++ q) ≡ rest (rest s ++ q)

@@ -45,8 +45,18 @@ pub block-two-is : (t x y : List ℕ) (v : Two) {w1 w2 w3 w4 w5 w6 w7 w8 w9 w10 
 unfolding stepsTwo blockTwo
 block-two-is t x y v e1 e2 e3 e4 e5 e6 e7 e8 e9 e10 e11 e12 e13 e14 e15 e16 p q =
     paired
-    (block-is t x (v .first) (all-steps t x (v .first) (ap (λ w. w .first) e1) (ap (λ w. w .first) e2) (ap (λ w. w .first) e3) (ap (λ w. w .first) e4) (ap (λ w. w .first) e5) (ap (λ w. w .first) e6) (ap (λ w. w .first) e7) (ap (λ w. w .first) e8) (ap (λ w. w .first) e9) (ap (λ w. w .first) e10) (ap (λ w. w .first) e11) (ap (λ w. w .first) e12) (ap (λ w. w .first) e13) (ap (λ w. w .first) e14) (ap (λ w. w .first) e15) (ap (λ w. w .first) e16)) p)
-    (block-is t y (v .second) (all-steps t y (v .second) (ap (λ w. w .second) e1) (ap (λ w. w .second) e2) (ap (λ w. w .second) e3) (ap (λ w. w .second) e4) (ap (λ w. w .second) e5) (ap (λ w. w .second) e6) (ap (λ w. w .second) e7) (ap (λ w. w .second) e8) (ap (λ w. w .second) e9) (ap (λ w. w .second) e10) (ap (λ w. w .second) e11) (ap (λ w. w .second) e12) (ap (λ w. w .second) e13) (ap (λ w. w .second) e14) (ap (λ w. w .second) e15) (ap (λ w. w .second) e16)) q)
+    (block-is t x (v .first) (all-steps t x (v .first)
+    (first e1) (first e2) (first e3) (first e4) (first e5) (first e6) (first e7) (first e8)
+    (first e9) (first e10) (first e11) (first e12) (first e13) (first e14) (first e15) (first e16)) p)
+    (block-is t y (v .second) (all-steps t y (v .second)
+    (second e1) (second e2) (second e3) (second e4) (second e5) (second e6) (second e7) (second e8)
+    (second e9) (second e10) (second e11) (second e12) (second e13) (second e14) (second e15) (second e16)) q)
+  where
+    first : {a b : Two} → a ≡ b → a .first ≡ b .first
+    first e = ap (λ w. w .first) e
+
+    second : {a b : Two} → a ≡ b → a .second ≡ b .second
+    second e = ap (λ w. w .second) e
 
 -- the padding of whole blocks is one block
 pub end-whole : (k s x : List ℕ) (n : ℕ) (w e r : Words) → n ≡ length s → n % 64 ≡ 0 → e ≡ whole k s w → x ≡ wordsOf 16 (padded 55 n) → r ≡ block k x e

@@ -6,15 +6,6 @@ use borrow.Author.Needs.{needs}
 use Rattle.md5.proofs.join.Statement.{statement}
 use Rattle.md5.proofs.join.Tie as tie
 
-slice-aggregate-copy : tie.Need-slice-aggregate-copy
-slice-aggregate-copy c = search needs
-
-copy-requires : tie.Need-copy-requires
-copy-requires c κs = search needs
-
-add-t12 : tie.Need-add-t12
-add-t12 c = search needs
-
 returns : tie.Need-returns
 returns c =
     let s = c .before .before .before .before .before .before in
@@ -22,4 +13,4 @@ returns c =
     absorb-short (s .args .state) (s .args .part .now) _ size (s .pre .1) (c .before .copy .ensures)
 
 pub join-spec : {M : Type 1} → statement M
-join-spec = tie.close (tie.spec slice-aggregate-copy copy-requires add-t12 returns)
+join-spec = tie.close (tie.spec (λ c. search needs) (λ c κs. search needs) (λ c. search needs) returns)

@@ -8,12 +8,6 @@ use borrow.Author.Needs.{needs}
 use Rattle.md5.proofs.words_after.Statement.{statement}
 use Rattle.md5.proofs.words_after.Tie as tie
 
-initial-requires : tie.Need-initial-requires
-initial-requires c κs = search needs
-
-end-requires : tie.Need-end-requires
-end-requires c κs = search needs
-
 returns : tie.Need-returns
 unfolding padding
 returns c =
@@ -21,4 +15,4 @@ returns c =
     c .end .ensures ∙ ap (whole addends (m ++ padding (length m))) (c .before .initial .ensures)
 
 pub words-after-spec : {M : Type 1} → statement M
-words-after-spec = tie.close (tie.spec initial-requires end-requires returns)
+words-after-spec = tie.close (tie.spec (λ c κs. search needs) (λ c κs. search needs) returns)

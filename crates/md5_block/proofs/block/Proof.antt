@@ -6,25 +6,29 @@ use Rattle.md5_block.proofs.block.Tie as tie
 
 returns : tie.Need-returns
 returns c =
-    let a = c .before .before .before .before .before .before .before .before .before .before .before .before .before .before .before .before .before .args in
+    let g16 = c .before in
+    let g15 = g16 .before in
+    let g14 = g15 .before in
+    let g13 = g14 .before in
+    let g12 = g13 .before in
+    let g11 = g12 .before in
+    let g10 = g11 .before in
+    let g9 = g10 .before in
+    let g8 = g9 .before in
+    let g7 = g8 .before in
+    let g6 = g7 .before in
+    let g5 = g6 .before in
+    let g4 = g5 .before in
+    let g3 = g4 .before in
+    let g2 = g3 .before in
+    let g1 = g2 .before in
+    let a = g1 .before .args in
     block-is (a .k .now) (a .x .now) (a .w)
     (all-steps (a .k .now) (a .x .now) (a .w)
-    (c .before .before .before .before .before .before .before .before .before .before .before .before .before .before .before .before .four .ensures)
-    (c .before .before .before .before .before .before .before .before .before .before .before .before .before .before .before .four2 .ensures)
-    (c .before .before .before .before .before .before .before .before .before .before .before .before .before .before .four3 .ensures)
-    (c .before .before .before .before .before .before .before .before .before .before .before .before .before .four4 .ensures)
-    (c .before .before .before .before .before .before .before .before .before .before .before .before .four5 .ensures)
-    (c .before .before .before .before .before .before .before .before .before .before .before .four6 .ensures)
-    (c .before .before .before .before .before .before .before .before .before .before .four7 .ensures)
-    (c .before .before .before .before .before .before .before .before .before .four8 .ensures)
-    (c .before .before .before .before .before .before .before .before .four9 .ensures)
-    (c .before .before .before .before .before .before .before .four10 .ensures)
-    (c .before .before .before .before .before .before .four11 .ensures)
-    (c .before .before .before .before .before .four12 .ensures)
-    (c .before .before .before .before .four13 .ensures)
-    (c .before .before .before .four14 .ensures)
-    (c .before .before .four15 .ensures)
-    (c .before .four16 .ensures))
+    (g1 .four .ensures) (g2 .four2 .ensures) (g3 .four3 .ensures) (g4 .four4 .ensures)
+    (g5 .four5 .ensures) (g6 .four6 .ensures) (g7 .four7 .ensures) (g8 .four8 .ensures)
+    (g9 .four9 .ensures) (g10 .four10 .ensures) (g11 .four11 .ensures) (g12 .four12 .ensures)
+    (g13 .four13 .ensures) (g14 .four14 .ensures) (g15 .four15 .ensures) (g16 .four16 .ensures))
     (c .sum .ensures)
 
 pub block-spec : {M : Type 1} → statement M

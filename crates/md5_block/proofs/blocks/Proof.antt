@@ -19,30 +19,6 @@ abbrev μ-loop : tie.MeasureT-loop
 loop-holds : tie.Need-loop-holds Inv-loop μ-loop
 loop-holds c = (search needs, rw sub-zero)
 
-sub-loop : tie.Need-sub-loop Inv-loop μ-loop
-sub-loop c = search needs
-
-sub-block-words : tie.Need-sub-block-words Inv-loop μ-loop
-sub-block-words c = search needs
-
-part-block-words-start : tie.Need-part-block-words-start Inv-loop μ-loop
-part-block-words-start c = search needs
-
-part-block-words-end : tie.Need-part-block-words-end Inv-loop μ-loop
-part-block-words-end c = search needs
-
-block-words-requires : tie.Need-block-words-requires Inv-loop μ-loop
-block-words-requires c κs = search needs
-
-block-requires : tie.Need-block-requires Inv-loop μ-loop
-block-requires c κs = search needs
-
-add-at : tie.Need-add-at Inv-loop μ-loop
-add-at c = search needs
-
-loop-less : tie.Need-loop-less Inv-loop μ-loop
-loop-less c = search needs
-
 loop-again : tie.Need-loop-again Inv-loop μ-loop
 loop-again c =
     let l = c .before .before .before .before .before .loop in
@@ -66,13 +42,13 @@ blocks-spec =
     Inv-loop
     μ-loop
     loop-holds
-    sub-loop
-    sub-block-words
-    part-block-words-start
-    part-block-words-end
-    block-words-requires
-    block-requires
-    add-at
-    loop-less
+    (λ c. search needs)
+    (λ c. search needs)
+    (λ c. search needs)
+    (λ c. search needs)
+    (λ c κs. search needs)
+    (λ c κs. search needs)
+    (λ c. search needs)
+    (λ c. search needs)
     loop-again
     returns)

@@ -6,15 +6,6 @@ use borrow.Author.Needs.{needs}
 use Rattle.md5_block.proofs.rotate.Statement.{statement}
 use Rattle.md5_block.proofs.rotate.Tie as tie
 
-shl-result : tie.Need-shl-result
-shl-result c = search needs
-
-sub-result : tie.Need-sub-result
-sub-result c = search needs
-
-shr-result : tie.Need-shr-result
-shr-result c = search needs
-
 returns : tie.Need-returns
 returns c =
     let e : c .args .s % 32 ≡ c .args .s = omega arith in
@@ -22,4 +13,4 @@ returns c =
     rw (e, f)
 
 pub rotate-spec : {M : Type 1} → statement M
-rotate-spec = tie.close (tie.spec shl-result sub-result shr-result returns)
+rotate-spec = tie.close (tie.spec (λ c. search needs) (λ c. search needs) (λ c. search needs) returns)

@@ -10,28 +10,13 @@ returns : tie.Need-returns
 unfolding wordNumber
 returns c = (rw (c .if1 .taken), omega arith)
 
-mul-result : tie.Need-mul-result
-mul-result c = search needs
-
-add-result : tie.Need-add-result
-add-result c = search needs
-
 returns-2 : tie.Need-returns-2
 unfolding wordNumber
 returns-2 c = (rw (c .if2 .taken), omega arith)
 
-mul-result-2 : tie.Need-mul-result-2
-mul-result-2 c = search needs
-
-add-result-2 : tie.Need-add-result-2
-add-result-2 c = search needs
-
 returns-3 : tie.Need-returns-3
 unfolding wordNumber
 returns-3 c = (rw (c .if3 .taken), omega arith)
-
-mul-result-3 : tie.Need-mul-result-3
-mul-result-3 c = search needs
 
 returns-4 : tie.Need-returns-4
 unfolding wordNumber
@@ -42,11 +27,11 @@ word-number-spec =
     tie.close
     (tie.spec
     returns
-    mul-result
-    add-result
+    (λ c. search needs)
+    (λ c. search needs)
     returns-2
-    mul-result-2
-    add-result-2
+    (λ c. search needs)
+    (λ c. search needs)
     returns-3
-    mul-result-3
+    (λ c. search needs)
     returns-4)

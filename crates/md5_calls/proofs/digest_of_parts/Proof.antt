@@ -1,5 +1,5 @@
 -- `md5_calls::digest_of_parts`: what is left is refused where the whole is too long, and else ends in the digest of the whole.
-use mathlib.Core.Path.{_≡_, refl, sym, ap, _∙_}
+use mathlib.Core.Path.{_≡_, ap, _∙_}
 use mathlib.Core.List.{List}
 use Prim.Native.Nat.{ℕ}
 use lib.ListN.{length}

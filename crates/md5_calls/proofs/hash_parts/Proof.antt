@@ -1,5 +1,4 @@
 -- `md5_calls::hash_parts`: after each part the state is that of the beginning of the message.
-use native.Mathlib.Omega.{arith}
 use Prim.Native.Nat.{_-_}
 use lib.ListN.{length, getD}
 use borrow.Author.Needs.{needs}

@@ -1,5 +1,5 @@
 -- `md5_end::eight`: the bytes of a and b.
-use mathlib.Core.Path.{_≡_, ap, _∙_}
+use mathlib.Core.Path.{ap, _∙_}
 use Prim.Native.Nat.{_<_}
 use native.Mathlib.Omega.{arith}
 use Rattle.md5_end.specs.End.{littleBytes, digestOf}
@@ -7,12 +7,6 @@ use Rattle.md5_end.proofs.EndLaws.{two-words}
 use borrow.Author.Needs.{needs}
 use Rattle.md5_end.proofs.eight.Statement.{statement}
 use Rattle.md5_end.proofs.eight.Tie as tie
-
-pair-requires : tie.Need-pair-requires
-pair-requires c κs = search needs
-
-little-requires : tie.Need-little-requires
-little-requires c κs = search needs
 
 returns : tie.Need-returns
 unfolding littleBytes digestOf
@@ -22,4 +16,4 @@ returns c =
     c .little .ensures ∙ ap (littleBytes 8) (c .before .pair .ensures) ∙ two-words (w .a) (w .b) fits
 
 pub eight-spec : {M : Type 1} → statement M
-eight-spec = tie.close (tie.spec pair-requires little-requires returns)
+eight-spec = tie.close (tie.spec (λ c κs. search needs) (λ c κs. search needs) returns)

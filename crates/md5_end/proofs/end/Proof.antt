@@ -4,70 +4,61 @@ use mathlib.Core.List.{_++_}
 use Prim.Native.Nat.{_%_, _<_}
 use native.Mathlib.Omega.{arith}
 use lib.ListN.{length}
-use Rattle.md5_block.specs.Block.{whole}
+use Rattle.md5_block.specs.Block.{addends, whole}
 use Rattle.md5_end.specs.End.{padded, zeros, rest}
 use Rattle.md5_end.proofs.EndLaws.{rest-length, marked, end-one, end-two}
 use borrow.Author.Needs.{needs}
 use Rattle.md5_end.proofs.end.Statement.{statement}
 use Rattle.md5_end.proofs.end.Tie as tie
 
-addends-requires : tie.Need-addends-requires
-addends-requires c κs = search needs
+-- ---- the rest of the message is laid
 
-lay-rest-requires : tie.Need-lay-rest-requires
-lay-rest-requires c κs = search needs
+abbrev Laid : Type 0
+Laid = tie.After-blocks2
 
-array-write-t : tie.Need-array-write-t
-array-write-t c = search needs
+abbrev start-at : Laid → tie.Start
+start-at b = b .before .before .before .before .before .before
 
-blocks-requires : tie.Need-blocks-requires
-blocks-requires c κs = search needs
-
-put-length-requires : tie.Need-put-length-requires
-put-length-requires c κs = search needs
-
-slice-aggregate-block-words : tie.Need-slice-aggregate-block-words
-slice-aggregate-block-words c = search needs
-
-block-words-requires : tie.Need-block-words-requires
-block-words-requires c κs = search needs
-
-block-requires : tie.Need-block-requires
-block-requires c κs = search needs
+addends-at : (b : Laid) → b .before .before .before .before .addends .result ≡ addends
+addends-at b = b .before .before .before .before .addends .ensures
 
 returns : tie.Need-returns
 returns c =
-    let a = c .before .before .before .before .before .before .before .before .before .before .before .before .before .before .args in
+    let words = c .before .before .before in
+    let put = words .before .before in
+    let one = put .before .before in
+    let b = one .before in
+    let a = start-at b .args in
     let s = a .s .now in
     let below : length s % 64 < 64 = omega arith in
-    let t = marked (rest s) _ _ (length s % 64) (rest-length s) below (c .before .before .before .before .before .before .before .before .before .before .lay-rest .ensures .0) refl in
-    end-one _ s _ _ _ (a .count) (length s % 64) (a .w) _ _ refl (c .before .before .before .before .before .before .before .if1 .taken) t (c .before .before .before .before .before .put-length .ensures .0) (c .before .before .before .block-words .ensures) (c .before .before .before .before .before .before .before .before .blocks2 .ensures) (c .block .ensures)
-    ∙ ap (λ k. whole k (s ++ padded (zeros (length s)) (a .count)) (a .w)) (c .before .before .before .before .before .before .before .before .before .before .before .before .addends .ensures)
-
-last-two-requires : tie.Need-last-two-requires
-last-two-requires c κs = search needs
+    let t = marked (rest s) _ _ (length s % 64) (rest-length s) below (b .before .before .lay-rest .ensures .0) refl in
+    end-one _ s _ _ _ (a .count) (length s % 64) (a .w) _ _ refl (one .if1 .taken) t (put .put-length .ensures .0) (words .block-words .ensures)
+    (b .blocks2 .ensures) (c .block .ensures)
+    ∙ ap (λ k. whole k (s ++ padded (zeros (length s)) (a .count)) (a .w)) (addends-at b)
 
 returns-2 : tie.Need-returns-2
 returns-2 c =
-    let a = c .before .before .before .before .before .before .before .before .before .before .args in
+    let two = c .before .before .before in
+    let b = two .before in
+    let a = start-at b .args in
     let s = a .s .now in
     let below : length s % 64 < 64 = omega arith in
-    let t = marked (rest s) _ _ (length s % 64) (rest-length s) below (c .before .before .before .before .before .before .lay-rest .ensures .0) refl in
-    end-two _ s _ (a .count) (length s % 64) (a .w) _ _ refl (c .before .before .before .if1 .left) t (c .before .before .before .before .blocks2 .ensures) (c .last-two .ensures)
-    ∙ ap (λ k. whole k (s ++ padded (zeros (length s)) (a .count)) (a .w)) (c .before .before .before .before .before .before .before .before .addends .ensures)
+    let t = marked (rest s) _ _ (length s % 64) (rest-length s) below (b .before .before .lay-rest .ensures .0) refl in
+    end-two _ s _ (a .count) (length s % 64) (a .w) _ _ refl (two .if1 .left) t (b .blocks2 .ensures) (c .last-two .ensures)
+    ∙ ap (λ k. whole k (s ++ padded (zeros (length s)) (a .count)) (a .w)) (addends-at b)
 
 pub end-spec : {M : Type 1} → statement M
 end-spec =
     tie.close
     (tie.spec
-    addends-requires
-    lay-rest-requires
-    array-write-t
-    blocks-requires
-    put-length-requires
-    slice-aggregate-block-words
-    block-words-requires
-    block-requires
+    (λ c κs. search needs)
+    (λ c κs. search needs)
+    (λ c. search needs)
+    (λ c κs. search needs)
+    (λ c κs. search needs)
+    (λ c. search needs)
+    (λ c κs. search needs)
+    (λ c κs. search needs)
     returns
-    last-two-requires
+    (λ c κs. search needs)
     returns-2)

@@ -8,21 +8,6 @@ use borrow.Author.Needs.{needs}
 use Rattle.md5_end.proofs.lay_rest.Statement.{statement}
 use Rattle.md5_end.proofs.lay_rest.Tie as tie
 
-sub-copy : tie.Need-sub-copy
-sub-copy c = search needs
-
-sub-copy-2 : tie.Need-sub-copy-2
-sub-copy-2 c = search needs
-
-part-copy-start : tie.Need-part-copy-start
-part-copy-start c = search needs
-
-part-copy-end : tie.Need-part-copy-end
-part-copy-end c = search needs
-
-copy-requires : tie.Need-copy-requires
-copy-requires c κs = search needs
-
 returns : tie.Need-returns
 returns c =
     let a = c .before .before .before .before .args in
@@ -31,4 +16,4 @@ returns c =
 
 pub lay-rest-spec : {M : Type 1} → statement M
 lay-rest-spec =
-    tie.close (tie.spec sub-copy sub-copy-2 part-copy-start part-copy-end copy-requires returns)
+    tie.close (tie.spec (λ c. search needs) (λ c. search needs) (λ c. search needs) (λ c. search needs) (λ c κs. search needs) returns)

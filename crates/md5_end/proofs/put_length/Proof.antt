@@ -8,26 +8,16 @@ use borrow.Author.Needs.{needs}
 use Rattle.md5_end.proofs.put_length.Statement.{statement}
 use Rattle.md5_end.proofs.put_length.Tie as tie
 
-mul-little : tie.Need-mul-little
-mul-little c = search needs
-
-little-requires : tie.Need-little-requires
-little-requires c κs = search needs
-
-slice-aggregate-copy : tie.Need-slice-aggregate-copy
-slice-aggregate-copy c = search needs
-
-copy-requires : tie.Need-copy-requires
-copy-requires c κs = search needs
-
 returns : tie.Need-returns
 returns c =
     let t = c .before .before .before .before .args .t .now in
     let l = c .before .before .before .little in
     let size : length t ≡ 64 = search needs in
-    let eight : length (l .result) ≡ 8 = ap length (l .ensures) ∙ little-length 8 _ in
-    (length-put t (l .result) _ size eight (c .copy .ensures) ∙ ap (λ x. take 56 t ++ x) (l .ensures ∙ bits-modulo _), ap length (c .copy .ensures) ∙ overlay-length t 56 (l .result) ∙ size)
+    let eight : length (l .result) ≡ 8 = ap length (l .ensures) ∙ little-length 8 _ in (
+      length-put t (l .result) _ size eight (c .copy .ensures) ∙ ap (λ x. take 56 t ++ x) (l .ensures ∙ bits-modulo _),
+      ap length (c .copy .ensures) ∙ overlay-length t 56 (l .result) ∙ size,
+    )
 
 pub put-length-spec : {M : Type 1} → statement M
 put-length-spec =
-    tie.close (tie.spec mul-little little-requires slice-aggregate-copy copy-requires returns)
+    tie.close (tie.spec (λ c. search needs) (λ c κs. search needs) (λ c. search needs) (λ c κs. search needs) returns)

@@ -11,16 +11,10 @@ use Rattle.md5_suite.proofs.hex.Reads as reads
 use Rattle.md5_suite.proofs.hex.Lts as lts
 use Rattle.text.proofs.put_hex.Reads as put-hex-reads
 
-slice-aggregate-put-hex : tie.Need-slice-aggregate-put-hex
-slice-aggregate-put-hex c = search needs
-
-put-hex-requires : tie.Need-put-hex-requires
-put-hex-requires c κs = search needs
-
 returns : tie.Need-returns
 returns c =
     let size : length (c .before .before .before .before .args .digest .now) ≡ 16 = search needs in
     put-filled _ _ _ _ (told _ _ _ _ _ (c .before .put-hex .ensures)) (hex-length (c .before .before .before .before .args .digest .now) ∙ omega arith)
 
 pub hex-spec : {M : Type 1} → statement M
-hex-spec = tie.close (tie.spec slice-aggregate-put-hex put-hex-requires returns)
+hex-spec = tie.close (tie.spec (λ c. search needs) (λ c κs. search needs) returns)

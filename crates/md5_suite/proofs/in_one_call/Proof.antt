@@ -4,11 +4,8 @@ use borrow.Author.Tests.{le-ltb}
 use Rattle.md5_suite.proofs.in_one_call.Statement.{statement}
 use Rattle.md5_suite.proofs.in_one_call.Tie as tie
 
-digest-requires : tie.Need-digest-requires
-digest-requires c κs = search needs
-
 returns : tie.Need-returns
 returns c = rw (le-ltb _ _ (c .before .before .before .pre)) at (c .before .digest .ensures .1)
 
 pub in-one-call-spec : {M : Type 1} → statement M
-in-one-call-spec = tie.close (tie.spec digest-requires returns)
+in-one-call-spec = tie.close (tie.spec (λ c κs. search needs) returns)

@@ -17,47 +17,19 @@ Inv-loop s size state₀ at₀ state at = (at ≤ length s) × (state ≡ stateA
 abbrev μ-loop : tie.MeasureT-loop
 μ-loop s size state₀ at₀ state at = length s - at
 
-new-requires : tie.Need-new-requires Inv-loop μ-loop
-new-requires c κs = search needs
-
 loop-holds : tie.Need-loop-holds Inv-loop μ-loop
 loop-holds c = (search needs, c .new .ensures ∙ fresh-is)
 
-sub-least : tie.Need-sub-least Inv-loop μ-loop
-sub-least c = search needs
-
-least-requires : tie.Need-least-requires Inv-loop μ-loop
-least-requires c κs = search needs
-
-add-end : tie.Need-add-end Inv-loop μ-loop
-add-end c = search needs
-
-sub-update : tie.Need-sub-update Inv-loop μ-loop
-sub-update c = search needs
-
-part-update-start : tie.Need-part-update-start Inv-loop μ-loop
-part-update-start c = search needs
-
-part-update-end : tie.Need-part-update-end Inv-loop μ-loop
-part-update-end c = search needs
-
-update-requires : tie.Need-update-requires Inv-loop μ-loop
-update-requires c κs = search needs
-
-loop-less : tie.Need-loop-less Inv-loop μ-loop
-loop-less c = search needs
-
 loop-again : tie.Need-loop-again Inv-loop μ-loop
 loop-again c =
-    let a = c .before .before .before .before .before .before .before .before .args in
-    let p = c .before .before .before .before .before .before .before .before .pre in
-    let l = c .before .before .before .before .before .loop in
+    let turn = c .before .before .before .before in
+    let start = turn .before .before .before .before in
+    let s = start .args .s .now in
+    let l = turn .before .loop in
+    let u = c .before .update .ensures in
     let end = l .at + c .before .before .before .least .result in
-    let inside : end ≤ length (a .s .now) = omega arith in
-    (inside, part-more (a .s .now) _ _ (l .at) end (omega arith) inside (p .0) (l .inv .1) (record { said = c .before .update .ensures .0; after = c .before .update .ensures .1 }))
-
-finish-requires : tie.Need-finish-requires Inv-loop μ-loop
-finish-requires c κs = search needs
+    let inside : end ≤ length s = omega arith in
+    (inside, part-more s _ _ (l .at) end (omega arith) inside (start .pre .0) (l .inv .1) (record { said = u .0; after = u .1 }))
 
 returns : tie.Need-returns Inv-loop μ-loop
 returns c =
@@ -71,16 +43,16 @@ in-parts-spec =
     (tie.spec
     Inv-loop
     μ-loop
-    new-requires
+    (λ c κs. search needs)
     loop-holds
-    sub-least
-    least-requires
-    add-end
-    sub-update
-    part-update-start
-    part-update-end
-    update-requires
-    loop-less
+    (λ c. search needs)
+    (λ c κs. search needs)
+    (λ c. search needs)
+    (λ c. search needs)
+    (λ c. search needs)
+    (λ c. search needs)
+    (λ c κs. search needs)
+    (λ c. search needs)
     loop-again
-    finish-requires
+    (λ c κs. search needs)
     returns)

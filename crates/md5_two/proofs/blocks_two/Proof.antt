@@ -24,52 +24,22 @@ abbrev μ-loop : tie.MeasureT-loop
 loop-holds : tie.Need-loop-holds Inv-loop μ-loop
 loop-holds c = (search needs, rw sub-zero, rw sub-zero)
 
-sub-loop : tie.Need-sub-loop Inv-loop μ-loop
-sub-loop c = search needs
-
-sub-block-words : tie.Need-sub-block-words Inv-loop μ-loop
-sub-block-words c = search needs
-
-part-block-words-start : tie.Need-part-block-words-start Inv-loop μ-loop
-part-block-words-start c = search needs
-
-part-block-words-end : tie.Need-part-block-words-end Inv-loop μ-loop
-part-block-words-end c = search needs
-
-block-words-requires : tie.Need-block-words-requires Inv-loop μ-loop
-block-words-requires c κs = search needs
-
-sub-block-words-2 : tie.Need-sub-block-words-2 Inv-loop μ-loop
-sub-block-words-2 c = search needs
-
-part-block-words-start-2 : tie.Need-part-block-words-start-2 Inv-loop μ-loop
-part-block-words-start-2 c = search needs
-
-part-block-words-end-2 : tie.Need-part-block-words-end-2 Inv-loop μ-loop
-part-block-words-end-2 c = search needs
-
-block-words-requires-2 : tie.Need-block-words-requires-2 Inv-loop μ-loop
-block-words-requires-2 c κs = search needs
-
-block-two-requires : tie.Need-block-two-requires Inv-loop μ-loop
-block-two-requires c κs = search needs
-
-add-at : tie.Need-add-at Inv-loop μ-loop
-add-at c = search needs
-
-loop-less : tie.Need-loop-less Inv-loop μ-loop
-loop-less c = search needs
-
 loop-again : tie.Need-loop-again Inv-loop μ-loop
 unfolding blockTwo
 loop-again c =
-    let l = c .before .before .before .before .before .before .before .before .loop in
-    let a = c .before .before .before .before .before .before .before .before .before .before .before .args in
-    let same = c .before .before .before .before .before .before .before .before .before .before .before .pre in
-    let test = c .before .before .before .before .before .before .before .loop-test .taken in (
+    let words-t = c .before .before .before in
+    let words-s = words-t .before .before in
+    let turn = words-s .before .before in
+    let start = turn .before .before .before .before in
+    let a = start .args in
+    let l = turn .before .loop in
+    let test = turn .loop-test .taken in
+    let s-words = words-s .block-words .ensures ∙ ap (wordsOf 16) (part-to-end (l .at) (a .s .now)) in
+    let t-words = words-t .block-words2 .ensures ∙ ap (wordsOf 16) (part-to-end (l .at) (a .t .now)) in
+    let both = c .block-two .ensures in (
       search needs,
-      one-block (a .k .now) (a .s .now) (l .at) _ (l .e .first) _ _ test (l .inv .1) (c .before .before .before .before .before .block-words .ensures ∙ ap (wordsOf 16) (part-to-end (l .at) (a .s .now))) (ap (λ w. w .first) (c .block-two .ensures)),
-      one-block (a .k .now) (a .t .now) (l .at) _ (l .e .second) _ _ (omega (arith, same, test)) (l .inv .2) (c .before .before .before .block-words2 .ensures ∙ ap (wordsOf 16) (part-to-end (l .at) (a .t .now))) (ap (λ w. w .second) (c .block-two .ensures)),
+      one-block (a .k .now) (a .s .now) (l .at) _ (l .e .first) _ _ test (l .inv .1) s-words (ap (λ w. w .first) both),
+      one-block (a .k .now) (a .t .now) (l .at) _ (l .e .second) _ _ (omega (arith, start .pre, test)) (l .inv .2) t-words (ap (λ w. w .second) both),
     )
 
 returns : tie.Need-returns Inv-loop μ-loop
@@ -88,17 +58,17 @@ blocks-two-spec =
     Inv-loop
     μ-loop
     loop-holds
-    sub-loop
-    sub-block-words
-    part-block-words-start
-    part-block-words-end
-    block-words-requires
-    sub-block-words-2
-    part-block-words-start-2
-    part-block-words-end-2
-    block-words-requires-2
-    block-two-requires
-    add-at
-    loop-less
+    (λ c. search needs)
+    (λ c. search needs)
+    (λ c. search needs)
+    (λ c. search needs)
+    (λ c κs. search needs)
+    (λ c. search needs)
+    (λ c. search needs)
+    (λ c. search needs)
+    (λ c κs. search needs)
+    (λ c κs. search needs)
+    (λ c. search needs)
+    (λ c. search needs)
     loop-again
     returns)

@@ -5,15 +5,9 @@ use borrow.Author.Needs.{needs}
 use Rattle.md5_two.proofs.four_two.Statement.{statement}
 use Rattle.md5_two.proofs.four_two.Tie as tie
 
-four-requires : tie.Need-four-requires
-four-requires c κs = search needs
-
-four-requires-2 : tie.Need-four-requires-2
-four-requires-2 c κs = search needs
-
 returns : tie.Need-returns
 unfolding stepsTwo
 returns c = paired (c .before .four .ensures) (c .four2 .ensures)
 
 pub four-two-spec : {M : Type 1} → statement M
-four-two-spec = tie.close (tie.spec four-requires four-requires-2 returns)
+four-two-spec = tie.close (tie.spec (λ c κs. search needs) (λ c κs. search needs) returns)

@@ -5,12 +5,9 @@ use borrow.Author.Needs.{needs}
 use Rattle.md5_two.proofs.hashed.Statement.{statement}
 use Rattle.md5_two.proofs.hashed.Tie as tie
 
-bytes-requires : tie.Need-bytes-requires
-bytes-requires c κs = search needs
-
 returns : tie.Need-returns
 unfolding checkOf
 returns c = (refl, c .bytes .ensures)
 
 pub hashed-spec : {M : Type 1} → statement M
-hashed-spec = tie.close (tie.spec bytes-requires returns)
+hashed-spec = tie.close (tie.spec (λ c κs. search needs) returns)

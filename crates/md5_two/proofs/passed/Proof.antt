@@ -5,12 +5,9 @@ use borrow.Author.Needs.{needs}
 use Rattle.md5_two.proofs.passed.Statement.{statement}
 use Rattle.md5_two.proofs.passed.Tie as tie
 
-eight-requires : tie.Need-eight-requires
-eight-requires c κs = search needs
-
 returns : tie.Need-returns
 unfolding checkOf
 returns c = (refl, c .eight .ensures)
 
 pub passed-spec : {M : Type 1} → statement M
-passed-spec = tie.close (tie.spec eight-requires returns)
+passed-spec = tie.close (tie.spec (λ c κs. search needs) returns)

@@ -10,47 +10,36 @@ use borrow.Author.Needs.{needs}
 use Rattle.md5_two.proofs.together.Statement.{statement}
 use Rattle.md5_two.proofs.together.Tie as tie
 
-addends-requires : tie.Need-addends-requires
-addends-requires c κs = search needs
-
-initial-requires : tie.Need-initial-requires
-initial-requires c κs = search needs
-
-initial-requires-2 : tie.Need-initial-requires-2
-initial-requires-2 c κs = search needs
-
-blocks-two-requires : tie.Need-blocks-two-requires
-blocks-two-requires c κs = search needs
-
-last-words-requires : tie.Need-last-words-requires
-last-words-requires c κs = search needs
-
-block-two-requires : tie.Need-block-two-requires
-block-two-requires c κs = search needs
-
 returns : tie.Need-returns
 unfolding blockTwo wholeTwo
 returns c =
-    let a = c .before .before .before .before .before .before .before .before .before .before .before .before .args in
-    let p = c .before .before .before .before .before .before .before .before .before .before .before .before .pre in
-    let k = c .before .before .before .before .before .before .before .before .before .addends in
-    let e = c .before .before .before .before .before .blocks-two .ensures in
-    let x = c .before .before .before .before .last-words .ensures in
+    let last = c .before .before .before .before in
+    let blocks = last .before in
+    let second-words = blocks .before .before in
+    let first-words = second-words .before in
+    let addends = first-words .before in
+    let start = addends .before .before .before in
+    let a = start .args .a .now in
+    let b = start .args .b .now in
+    let p = start .pre in
+    let k = addends .addends in
+    let e = blocks .blocks-two .ensures in
+    let x = last .last-words .ensures in
     let r = c .block-two .ensures in (
-      end-whole (k .result) (a .a .now) _ (length (a .a .now)) _ _ _ refl (p .1) (ap (λ w. w .first) e) x (ap (λ w. w .first) r)
-          ∙ ap₂ (λ t w. whole t (a .a .now ++ padding (length (a .a .now))) w) (k .ensures) (c .before .before .before .before .before .before .before .before .initial .ensures),
-      end-whole (k .result) (a .b .now) _ (length (a .a .now)) _ _ _ (p .0) (p .1) (ap (λ w. w .second) e) x (ap (λ w. w .second) r)
-          ∙ ap₂ (λ t w. whole t (a .b .now ++ padding (length (a .b .now))) w) (k .ensures) (c .before .before .before .before .before .before .before .initial2 .ensures),
+      end-whole (k .result) a _ (length a) _ _ _ refl (p .1) (ap (λ w. w .first) e) x (ap (λ w. w .first) r)
+          ∙ ap₂ (λ t w. whole t (a ++ padding (length a)) w) (k .ensures) (first-words .initial .ensures),
+      end-whole (k .result) b _ (length a) _ _ _ (p .0) (p .1) (ap (λ w. w .second) e) x (ap (λ w. w .second) r)
+          ∙ ap₂ (λ t w. whole t (b ++ padding (length b)) w) (k .ensures) (second-words .initial2 .ensures),
     )
 
 pub together-spec : {M : Type 1} → statement M
 together-spec =
     tie.close
     (tie.spec
-    addends-requires
-    initial-requires
-    initial-requires-2
-    blocks-two-requires
-    last-words-requires
-    block-two-requires
+    (λ c κs. search needs)
+    (λ c κs. search needs)
+    (λ c κs. search needs)
+    (λ c κs. search needs)
+    (λ c κs. search needs)
+    (λ c κs. search needs)
     returns)

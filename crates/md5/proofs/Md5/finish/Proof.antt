@@ -24,22 +24,21 @@ slice-aggregate-end c =
     let fits : c .before .before .args .self .count % 64 ≤ length (c .before .before .args .self .pending) = omega arith in
     sym (length-take-le _ _ fits)
 
-end-requires : tie.Need-end-requires
-end-requires c κs = search needs
-
-bytes-requires : tie.Need-bytes-requires
-bytes-requires c κs = search needs
-
 returns : tie.Need-returns
 unfolding padding finished
 returns c =
     let s = c .before .before .before .before .args .self in
     let size : length (s .pending) ≡ 64 = search needs in
     let fits : s .count % 64 ≤ length (s .pending) = omega arith in
-    c .bytes .ensures
-    ∙ ap digestOf (c .before .end .ensures ∙ ap (λ z. whole addends (waiting s ++ padded z (s .count)) (s .words)) (waiting-zeros (waiting s) (s .count) (length-take-le _ _ fits)))
+    let zeros = waiting-zeros (waiting s) (s .count) (length-take-le _ _ fits) in
+    c .bytes .ensures ∙ ap digestOf (c .before .end .ensures ∙ ap (λ z. whole addends (waiting s ++ padded z (s .count)) (s .words)) zeros)
 
 pub finish-spec : {M : Type 1} → statement M
 finish-spec =
     tie.close
-    (tie.spec array-share-prefix-pending slice-aggregate-end end-requires bytes-requires returns)
+    (tie.spec
+    array-share-prefix-pending
+    slice-aggregate-end
+    (λ c κs. search needs)
+    (λ c κs. search needs)
+    returns)

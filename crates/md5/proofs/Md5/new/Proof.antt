@@ -4,12 +4,9 @@ use borrow.Author.Needs.{needs}
 use Rattle.md5.proofs.Md5.new.Statement.{statement}
 use Rattle.md5.proofs.Md5.new.Tie as tie
 
-initial-requires : tie.Need-initial-requires
-initial-requires c κs = search needs
-
 returns : tie.Need-returns
 unfolding fresh
 returns c = rw (c .initial .ensures)
 
 pub new-spec : {M : Type 1} → statement M
-new-spec = tie.close (tie.spec initial-requires returns)
+new-spec = tie.close (tie.spec (λ c κs. search needs) returns)

@@ -1,5 +1,5 @@
 -- `md5::Md5::update`: one more part, or refusal 50 and the state as it was.
-use mathlib.Core.Path.{_≡_, refl, _∙_}
+use mathlib.Core.Path.{_≡_, _∙_}
 use mathlib.Core.Bool.{true, false}
 use Prim.Native.Nat.{_+_, _^_}
 use native.Mathlib.Omega.{arith}
@@ -10,12 +10,6 @@ use Rattle.md5.specs.Message.{tooLong}
 use borrow.Author.Needs.{needs}
 use Rattle.md5.proofs.Md5.update.Statement.{statement}
 use Rattle.md5.proofs.Md5.update.Tie as tie
-
-within-limit-requires : tie.Need-within-limit-requires
-within-limit-requires c κs = search needs
-
-refuse-requires : tie.Need-refuse-requires
-refuse-requires c κs = search needs
 
 returns : tie.Need-returns
 unfolding refusedIf
@@ -38,4 +32,4 @@ returns-2 c =
 
 pub update-spec : {M : Type 1} → statement M
 update-spec =
-    tie.close (tie.spec within-limit-requires refuse-requires returns absorb-requires returns-2)
+    tie.close (tie.spec (λ c κs. search needs) (λ c κs. search needs) returns absorb-requires returns-2)
