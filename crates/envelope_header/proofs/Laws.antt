@@ -15,7 +15,8 @@ use Rattle.numbers.specs.Number.{bigAt}
 use Rattle.numbers.proofs.Laws.{bigAt-below}
 use Rattle.refusal.specs.Check.{Check, silent, refused, refusedIf, first, firstFrom}
 use Rattle.refusal.specs.Number.{chunk-sizes}
-use Rattle.refusal.proofs.Laws.{said, quiet, silent-test, first-said, first-left, first-right, skip, from-said, from-quiet, from-none, from-each, answered-after, refusal-after}
+use Rattle.refusal.proofs.Laws.{said, quiet, silent-test, first-said, first-left, first-right, skip, from-said}
+use Rattle.refusal.proofs.Laws.{from-quiet, from-none, from-each, answered-after, refusal-after}
 use Rattle.refusal.specs.declared.Refusal.{Refusal}
 use Rattle.refusal.specs.Outcome.{answered, after}
 use Rattle.envelope_header.specs.declared.Header.{Header}
@@ -98,7 +99,8 @@ module _ {s : List ℕ} {h : Header} {i left : ℕ} (z : Sized s h i left) (size
         inside = omega arith;
         after = omega (arith, e, z .after, chunk-after s h i);
         rest = z .rest
-            ∙ ap (λ k. first k (sumCheck s h)) (from-quiet (emptyCheck s h) i (chunkCount h - i) (omega arith) (quiet chunk-sizes 0 refl (ne-eqb _ 0 (λ g. some (e ∙ g)))))
+            ∙ ap (λ k. first k (sumCheck s h))
+            (from-quiet (emptyCheck s h) i (chunkCount h - i) (omega arith) (quiet chunk-sizes 0 refl (ne-eqb _ 0 (λ g. some (e ∙ g)))))
             ∙ ap (λ n. first (firstFrom (emptyCheck s h) (i + 1) n) (sumCheck s h)) less;
       }
 
@@ -124,6 +126,7 @@ passed-header k l m v e g =
     let r : l .rows ≡ m .rows = cc in
     (a .0, λ i. record { rows = r i })
 
-pub refused-header : (k : Check) (m : Header) (v : Opened) {r : Refusal} → outcome v ≡ after k (answered (headerValues m)) → v ≡ Refused r → k ≡ refused (r .number) (r .place)
+pub refused-header : (k : Check) (m : Header) (v : Opened) {r : Refusal} → outcome v ≡ after k (answered (headerValues m)) → v ≡ Refused r
+    → k ≡ refused (r .number) (r .place)
 unfolding outcome
 refused-header k m v {r} e g = refusal-after k (r .number) (r .place) (headerValues m) (sym (ap outcome g) ∙ e)

@@ -277,5 +277,6 @@ take-of-bigAt (suc w) (x ∷ a) (y ∷ b) u v l m h =
     (take-of-bigAt w a b (λ i. u (suc i)) (λ i. v (suc i)) (omega arith) (omega arith)
     (omega (arith, ap (λ (n : ℕ). n * 256 ^ w) e)))
 
-pub drop-of-bigAt : (w : ℕ) (a b : List ℕ) → Bytes a → Bytes b → w ≤ length a → w ≤ length b → bigAt a 0 w ≡ bigAt b 0 w → compared a b ≡ compared (drop w a) (drop w b)
+pub drop-of-bigAt : (w : ℕ) (a b : List ℕ) → Bytes a → Bytes b → w ≤ length a → w ≤ length b → bigAt a 0 w ≡ bigAt b 0 w
+    → compared a b ≡ compared (drop w a) (drop w b)
 drop-of-bigAt w a b u v l m h = compared-drop w a b (take-of-bigAt w a b u v l m h)

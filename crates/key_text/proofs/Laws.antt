@@ -63,7 +63,10 @@ module _ {text : List ℕ} {at : ℕ} (d : Digits text at) where
       let less : length text - at - 1 ≡ length text - (at + 1) = omega arith in
       record {
         inside = omega arith;
-        rest = d .rest ∙ from-quiet (digitCheck text) at (length text - at) (omega arith) (quiet hex-digit at refl (rw (lt-ltb (digitOf (byteAt text at)) 16 (omega arith)))) ∙ ap (firstFrom (digitCheck text) (at + 1)) less;
+        rest = d .rest
+            ∙ from-quiet (digitCheck text) at (length text - at) (omega arith)
+            (quiet hex-digit at refl (rw (lt-ltb (digitOf (byteAt text at)) 16 (omega arith))))
+            ∙ ap (firstFrom (digitCheck text) (at + 1)) less;
       }
 
   pub digits-all : length text ≤ at → digitsCheck text ≡ silent
@@ -120,7 +123,8 @@ textBytes-length [] = refl
 textBytes-length (x ∷ []) = refl
 textBytes-length (x ∷ y ∷ text) = omega (arith, textBytes-length text)
 
-pub textBytes-byte : (text : List ℕ) (i : ℕ) → 2 * i + 1 < length text → byteAt (textBytes text) i ≡ digitOf (byteAt text (2 * i)) * 16 + digitOf (byteAt text (2 * i + 1))
+pub textBytes-byte : (text : List ℕ) (i : ℕ) → 2 * i + 1 < length text
+    → byteAt (textBytes text) i ≡ digitOf (byteAt text (2 * i)) * 16 + digitOf (byteAt text (2 * i + 1))
 unfolding textBytes
 textBytes-byte [] i l = absurd (not-suc-le-zero l)
 textBytes-byte (x ∷ []) i l = absurd (omega arith)
@@ -134,7 +138,8 @@ textBytes-byte (x ∷ y ∷ text) (suc i) l =
 abbrev pub over : List ℕ → ℕ → List ℕ
 over text n = paste (replicate 16 0) 0 (textBytes text) n
 
-pub over-more : (text bytes : List ℕ) (at high low : ℕ) → length text ≤ 32 → at < length text / 2 → bytes ≡ over text at → high ≡ digitOf (byteAt text (2 * at)) → low ≡ digitOf (byteAt text (2 * at + 1))
+pub over-more : (text bytes : List ℕ) (at high low : ℕ) → length text ≤ 32 → at < length text / 2 → bytes ≡ over text at
+    → high ≡ digitOf (byteAt text (2 * at)) → low ≡ digitOf (byteAt text (2 * at + 1))
     → set bytes at (high * 16 + low) ≡ over text (at + 1)
 over-more text bytes at high low short l e h m =
     let byte = textBytes-byte text at (omega arith) in

@@ -138,7 +138,8 @@ overlay-paste (x ∷ to) zero (y ∷ from) =
     simp (sub-zero, zero-add, suc-min-suc)
     (ap (λ (r : List ℕ). y ∷ r) (simp (sub-zero, zero-add) at (overlay-paste to zero from)))
 
-pub overlay-inside : (to : List ℕ) (at : ℕ) (from : List ℕ) → at + length from ≤ length to → overlay to at from ≡ take at to ++ from ++ drop (at + length from) to
+pub overlay-inside : (to : List ℕ) (at : ℕ) (from : List ℕ) → at + length from ≤ length to
+    → overlay to at from ≡ take at to ++ from ++ drop (at + length from) to
 overlay-inside to at from h =
     let all : min (length from) (length to - at) ≡ length from = omega arith in
     rw (overlay-paste to at from, all, take-length from)
@@ -156,7 +157,8 @@ overlay-after [] at a b = refl
 overlay-after (x ∷ to) (suc at) a b = rw (suc-add at (length a)) (ap (λ (r : List ℕ). x ∷ r) (overlay-after to at a b))
 overlay-after (x ∷ to) zero [] b = refl
 overlay-after (x ∷ to) zero (y ∷ a) b =
-    rw (zero-add (suc (length a))) (ap (λ (r : List ℕ). y ∷ r) (ap (λ n. overlay (overlay to zero a) n b) (sym (zero-add (length a))) ∙ overlay-after to zero a b))
+    rw (zero-add (suc (length a)))
+    (ap (λ (r : List ℕ). y ∷ r) (ap (λ n. overlay (overlay to zero a) n b) (sym (zero-add (length a))) ∙ overlay-after to zero a b))
 
 -- What stands before the bytes that are laid over stays.
 overlay-front : (to : List ℕ) (at : ℕ) (from : List ℕ) → take at (overlay to at from) ≡ take at to
@@ -182,7 +184,8 @@ pub overlay-next : (done part out old : List ℕ) (to : ℕ) → old ≡ done ++
     → overlay old to part ≡ (done ++ part) ++ drop (length (done ++ part)) out
 overlay-next done part out old to e t room =
     let both : length (done ++ part) ≡ length done + length part = length-append done part in
-    let long : length old ≡ length out = ap length e ∙ length-append done (drop (length done) out) ∙ ap (λ n. length done + n) (length-drop (length done) out) ∙ omega arith in
+    let long : length old ≡ length out =
+    ap length e ∙ length-append done (drop (length done) out) ∙ ap (λ n. length done + n) (length-drop (length done) out) ∙ omega arith in
     let inside : to + length part ≤ length old = omega arith in
     let front : take to old ≡ done = rw (e, t) (take-append-seam done (drop (length done) out)) in
     let back : drop (to + length part) old ≡ drop (length (done ++ part)) out =

@@ -56,7 +56,10 @@ module _ (f : ℕ → List ℕ) where
   pub parts-room : (p n : ℕ) → p ≤ n → length (partsFrom f 0 p) ≤ length (partsFrom f 0 n)
   parts-room p n h =
       let e : p + (n - p) ≡ n = omega arith in
-      omega (arith, ap (λ i. length (partsFrom f 0 i)) (sym e) ∙ ap length (parts-append 0 p (n - p)) ∙ length-append (partsFrom f 0 p) (partsFrom f (0 + p) (n - p)))
+      omega (
+        arith,
+        ap (λ i. length (partsFrom f 0 i)) (sym e) ∙ ap length (parts-append 0 p (n - p)) ∙ length-append (partsFrom f 0 p) (partsFrom f (0 + p) (n - p)),
+      )
 
   -- a turn of a loop that writes one part more after those so far
   pub part-turn : (p n : ℕ) (part out old : List ℕ) (to : ℕ) → p < n → length (partsFrom f 0 n) ≤ length out → part ≡ f p
@@ -96,7 +99,9 @@ module _ (f : ℕ → List ℕ) (c : ℕ) where
       let e : n ≡ p + (1 + (n - p - 1)) = omega arith in
       let front : length (partsFrom f 0 p) ≡ p * c = parts-length 0 p (λ j a b. h j (omega arith)) in
       let split : partsFrom f 0 n ++ rest ≡ partsFrom f 0 p ++ (f p ++ (partsFrom f (p + 1) (n - p - 1) ++ rest)) =
-      ap (λ r. r ++ rest) (ap (partsFrom f 0) e ∙ parts-append f 0 p (1 + (n - p - 1)) ∙ ap (λ r. partsFrom f 0 p ++ r) (ap (λ i. partsFrom f i (1 + (n - p - 1))) (zero-add p) ∙ parts-append f p 1 (n - p - 1) ∙ ap (λ r. r ++ partsFrom f (p + 1) (n - p - 1)) (append-nil (f p))))
+      ap (λ r. r ++ rest) (ap (partsFrom f 0) e ∙ parts-append f 0 p (1 + (n - p - 1)) ∙ ap (λ r. partsFrom f 0 p ++ r)
+      (ap (λ i. partsFrom f i (1 + (n - p - 1))) (zero-add p) ∙ parts-append f p 1 (n - p - 1)
+      ∙ ap (λ r. r ++ partsFrom f (p + 1) (n - p - 1)) (append-nil (f p))))
       ∙ append-assoc (partsFrom f 0 p) (f p ++ partsFrom f (p + 1) (n - p - 1)) rest
       ∙ ap (λ r. partsFrom f 0 p ++ r) (append-assoc (f p) (partsFrom f (p + 1) (n - p - 1)) rest) in
       ap (λ r. partAt r (p * c) (length (f p))) split

@@ -147,9 +147,13 @@ module _ {t : List ℕ} {number left at : ℕ} (b : Begins t number left at) whe
   pub begins-other : (next : ℕ) → next ≡ left → at < length t → 0 < left → (byteAt t at ≡ 0 → ⊥) → Begins t number next (at + 1)
   begins-other next is l h e = record { start = omega (arith, b .start, start-other t at l e left h, ap (startOf (drop (at + 1) t)) is) }
 
-  pub begins-block : (r : ℕ) (block : List ℕ) → block ≡ partAt t at (length block) → r ≡ countOf block → r < left → Begins t number (left - r) (at + length block)
+  pub begins-block : (r : ℕ) (block : List ℕ) → block ≡ partAt t at (length block) → r ≡ countOf block → r < left
+      → Begins t number (left - r) (at + length block)
   begins-block r block is e h = record {
-    start = omega (arith, b .start, ap (λ u. startOf u left) (followed t at block is), start-append block (drop (at + length block) t) left (omega arith), ap (λ k. startOf (drop (at + length block) t) (left - k)) e);
+    start =
+        let here = ap (λ u. startOf u left) (followed t at block is) in
+        let behind = drop (at + length block) t in
+        omega (arith, b .start, here, start-append block behind left (omega arith), ap (λ k. startOf behind (left - k)) e);
   }
 
   pub begins-here : left ≡ 0 → at ≡ startOf t number

@@ -202,7 +202,8 @@ module _ (t : List ℕ) (n at count : ℕ) (start : at ≡ startOf t n) (long : 
 
 -- ---- a run of strings
 
-front-step : (z : Bool) (b : ℕ) (string : List ℕ) (more rest : List (List ℕ)) → cond z 1 0 + countOf string ≡ 0 → rest ≡ string ∷ more → inFront z b rest ≡ (b ∷ string) ∷ more
+front-step : (z : Bool) (b : ℕ) (string : List ℕ) (more rest : List (List ℕ)) → cond z 1 0 + countOf string ≡ 0 → rest ≡ string ∷ more
+    → inFront z b rest ≡ (b ∷ string) ∷ more
 unfolding inFront
 front-step true b string more rest h e = absurd (omega arith)
 front-step false b string more rest h e = ap (inFront false b) e

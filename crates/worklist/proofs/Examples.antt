@@ -43,7 +43,8 @@ pub record Examples : Type 0 where
   pub no-separator : rowOutcome two-rows 20 34 ≡ refusal 11 0
 
 pub examples : Examples
-unfolding ofRow after refusedIf noSeparator rowAt rowBy rowStep fieldAt stopFrom stops closingFrom quotedField endsField separatorAt inFront rowValues rowEnd rowKind behindLineEnd fieldIn columnOf spanValues
+unfolding ofRow after refusedIf noSeparator rowAt rowBy rowStep fieldAt stopFrom stops
+    closingFrom quotedField endsField separatorAt inFront rowValues rowEnd rowKind behindLineEnd fieldIn columnOf spanValues
 examples = record {
   first-row = refl;
   last-row = refl;

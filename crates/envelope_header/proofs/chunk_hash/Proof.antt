@@ -5,19 +5,13 @@ use borrow.Author.Needs.{needs}
 use Rattle.envelope_header.proofs.chunk_hash.Statement.{statement}
 use Rattle.envelope_header.proofs.chunk_hash.Tie as tie
 
-row-at-requires : tie.Need-row-at-requires
-row-at-requires c κs = search needs
-
 add-part : tie.Need-add-part
 unfolding rowAt
 add-part c = omega (arith, c .row-at .ensures)
-
-part-requires : tie.Need-part-requires
-part-requires c κs = search needs
 
 returns : tie.Need-returns
 unfolding chunkHash
 returns c = rw (c .part .ensures .0, c .before .row-at .ensures)
 
 pub chunk-hash-spec : {M : Type 1} → statement M
-chunk-hash-spec = tie.close (tie.spec row-at-requires add-part part-requires returns)
+chunk-hash-spec = tie.close (tie.spec (λ c κs. search needs) add-part (λ c κs. search needs) returns)

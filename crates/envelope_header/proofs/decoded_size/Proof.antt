@@ -5,19 +5,13 @@ use borrow.Author.Needs.{needs}
 use Rattle.envelope_header.proofs.decoded_size.Statement.{statement}
 use Rattle.envelope_header.proofs.decoded_size.Tie as tie
 
-row-at-requires : tie.Need-row-at-requires
-row-at-requires c κs = search needs
-
 add-big : tie.Need-add-big
 unfolding rowAt
 add-big c = omega (arith, c .row-at .ensures)
-
-big-requires : tie.Need-big-requires
-big-requires c κs = search needs
 
 returns : tie.Need-returns
 unfolding decodedSize
 returns c = rw (c .big .ensures, c .before .row-at .ensures)
 
 pub decoded-size-spec : {M : Type 1} → statement M
-decoded-size-spec = tie.close (tie.spec row-at-requires add-big big-requires returns)
+decoded-size-spec = tie.close (tie.spec (λ c κs. search needs) add-big (λ c κs. search needs) returns)

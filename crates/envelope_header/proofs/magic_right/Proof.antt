@@ -10,19 +10,13 @@ returns : tie.Need-returns
 unfolding magicRight
 returns c = rw (lt-leb shortSize (length (c .before .before .args .file .now)) (c .if1 .taken))
 
-part-requires : tie.Need-part-requires
-part-requires c κs = search needs
-
-slice-aggregate-equal : tie.Need-slice-aggregate-equal
-slice-aggregate-equal c = search needs
-
-equal-requires : tie.Need-equal-requires
-equal-requires c κs = search needs
-
 returns-2 : tie.Need-returns-2
 unfolding magicRight
-returns-2 c = rw (le-leb shortSize (length (c .before .before .before .before .before .args .file .now)) (c .before .before .before .if1 .left), c .equal .ensures, c .before .before .part .ensures .0)
+returns-2 c =
+    let parted = c .before .before in
+    let long = parted .before in
+    rw (le-leb shortSize (length (long .before .before .args .file .now)) (long .if1 .left), c .equal .ensures, parted .part .ensures .0)
 
 pub magic-right-spec : {M : Type 1} → statement M
 magic-right-spec =
-    tie.close (tie.spec returns part-requires slice-aggregate-equal equal-requires returns-2)
+    tie.close (tie.spec returns (λ c κs. search needs) (λ c. search needs) (λ c κs. search needs) returns-2)

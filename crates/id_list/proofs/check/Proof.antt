@@ -1,5 +1,5 @@
 -- `id_list::check`: 12, then 161 for the ids that are left.
-use mathlib.Core.Path.{_≡_, refl, sym, ap, ap₂, _∙_}
+use mathlib.Core.Path.{_≡_, refl, sym, _∙_}
 use Prim.Native.Nat.{_-_, _≤_}
 use native.Mathlib.Omega.{arith}
 use Rattle.refusal.specs.Check.{firstFrom, checkOf}
@@ -16,26 +16,11 @@ Inv-loop ids n i₀ i = (1 ≤ i) × (firstFrom (fallCheck ids) 1 (n - 1) ≡ fi
 abbrev μ-loop : tie.MeasureT-loop
 μ-loop ids n i₀ i = n - i
 
-refuse-requires : tie.Need-refuse-requires Inv-loop μ-loop
-refuse-requires c κs = search needs
-
 returns : tie.Need-returns Inv-loop μ-loop
 returns c = c .refuse .ensures ∙ sym (list-cut (c .before .before .before .args .ids .now) (c .before .if1 .taken))
 
 loop-holds : tie.Need-loop-holds Inv-loop μ-loop
 loop-holds c = (omega arith, refl)
-
-id-at-requires : tie.Need-id-at-requires Inv-loop μ-loop
-id-at-requires c κs = search needs
-
-sub-id-at : tie.Need-sub-id-at Inv-loop μ-loop
-sub-id-at c = search needs
-
-id-at-requires-2 : tie.Need-id-at-requires-2 Inv-loop μ-loop
-id-at-requires-2 c κs = search needs
-
-refuse-requires-2 : tie.Need-refuse-requires-2 Inv-loop μ-loop
-refuse-requires-2 c κs = search needs
 
 returns-2 : tie.Need-returns-2 Inv-loop μ-loop
 returns-2 c =
@@ -46,12 +31,6 @@ returns-2 c =
     c .refuse2 .ensures
     ∙ sym (list-whole ids (at-loop .before .if1 .left) ∙ l .inv .1
     ∙ upto-said (fallCheck ids) (l .i) (idCount ids) (c .before .before .before .before .loop-test .taken) fall)
-
-add-i : tie.Need-add-i Inv-loop μ-loop
-add-i c = search needs
-
-loop-less : tie.Need-loop-less Inv-loop μ-loop
-loop-less c = search needs
 
 loop-again : tie.Need-loop-again Inv-loop μ-loop
 loop-again c =
@@ -73,15 +52,15 @@ check-spec =
     (tie.spec
     Inv-loop
     μ-loop
-    refuse-requires
+    (λ c κs. search needs)
     returns
     loop-holds
-    id-at-requires
-    sub-id-at
-    id-at-requires-2
-    refuse-requires-2
+    (λ c κs. search needs)
+    (λ c. search needs)
+    (λ c κs. search needs)
+    (λ c κs. search needs)
     returns-2
-    add-i
-    loop-less
+    (λ c. search needs)
+    (λ c. search needs)
     loop-again
     returns-3)

@@ -5,12 +5,6 @@ use borrow.Author.Needs.{needs}
 use Rattle.id_list.proofs.place.Statement.{statement}
 use Rattle.id_list.proofs.place.Tie as tie
 
-sub-id-at : tie.Need-sub-id-at
-sub-id-at c = search needs
-
-id-at-requires : tie.Need-id-at-requires
-id-at-requires c κs = search needs
-
 ahead-requires : tie.Need-ahead-requires
 ahead-requires c κs =
     let start = c .before .before .before .before .before in
@@ -19,15 +13,9 @@ ahead-requires c κs =
     let id = start .args .id in
     between-from ids id guess (omega arith) (rw (← c .before .id-at .ensures) (c .if3 .taken))
 
-returns : tie.Need-returns
-returns c = search needs
-
 ahead-requires-2 : tie.Need-ahead-requires-2
 ahead-requires-2 c κs = between-all _ _
 
-returns-2 : tie.Need-returns-2
-returns-2 c = search needs
-
 pub place-spec : {M : Type 1} → statement M
 place-spec =
-    tie.close (tie.spec sub-id-at id-at-requires ahead-requires returns ahead-requires-2 returns-2)
+    tie.close (tie.spec (λ c. search needs) (λ c κs. search needs) ahead-requires (λ c. search needs) ahead-requires-2 (λ c. search needs))

@@ -7,13 +7,10 @@ use Rattle.id_list.proofs.stands.Tie as tie
 returns : tie.Need-returns
 returns c = stands-past _ _ _ (c .if1 .taken)
 
-id-at-requires : tie.Need-id-at-requires
-id-at-requires c κs = search needs
-
 returns-2 : tie.Need-returns-2
 returns-2 c =
     let a = c .before .before .before .args in
     stands-there (a .ids .now) (a .i) (a .id) (c .id-at .result) (c .before .if1 .left) (c .id-at .ensures)
 
 pub stands-spec : {M : Type 1} → statement M
-stands-spec = tie.close (tie.spec returns id-at-requires returns-2)
+stands-spec = tie.close (tie.spec returns (λ c κs. search needs) returns-2)

@@ -20,12 +20,6 @@ loop-holds c = passed-none _ _
 returns : tie.Need-returns Inv-loop μ-loop
 returns c = sym (above-at-end (c .before .before .loop .inv) (search needs) (search needs))
 
-shared-slice-read-x : tie.Need-shared-slice-read-x Inv-loop μ-loop
-shared-slice-read-x c = search needs
-
-shared-slice-read-y : tie.Need-shared-slice-read-y Inv-loop μ-loop
-shared-slice-read-y c = search needs
-
 returns-2 : tie.Need-returns-2 Inv-loop μ-loop
 returns-2 c =
     let passed = c .before .before .before .before .before .before .loop .inv in
@@ -35,12 +29,6 @@ returns-3 : tie.Need-returns-3 Inv-loop μ-loop
 returns-3 c =
     let passed = c .before .before .before .before .before .before .loop .inv in
     sym (above-at passed (search needs) (search needs) (omega arith))
-
-add-same : tie.Need-add-same Inv-loop μ-loop
-add-same c = search needs
-
-loop-less : tie.Need-loop-less Inv-loop μ-loop
-loop-less c = search needs
 
 loop-again : tie.Need-loop-again Inv-loop μ-loop
 loop-again c =
@@ -61,12 +49,12 @@ compare-spec =
     μ-loop
     loop-holds
     returns
-    shared-slice-read-x
-    shared-slice-read-y
+    (λ c. search needs)
+    (λ c. search needs)
     returns-2
     returns-3
-    add-same
-    loop-less
+    (λ c. search needs)
+    (λ c. search needs)
     loop-again
     returns-4
     returns-5)

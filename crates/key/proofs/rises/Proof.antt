@@ -5,18 +5,6 @@ use Rattle.key.specs.Order.{isBelow}
 use Rattle.key.proofs.rises.Statement.{statement}
 use Rattle.key.proofs.rises.Tie as tie
 
-compare-requires : tie.Need-compare-requires
-compare-requires c κs = search needs
-
-enum-told : tie.Need-enum-told
-enum-told c = search needs
-
-enum-told-2 : tie.Need-enum-told-2
-enum-told-2 c = search needs
-
-enum-told-3 : tie.Need-enum-told-3
-enum-told-3 c = search needs
-
 returns : tie.Need-returns
 returns c = ap isBelow (sym (c .enum-told .given .1) ∙ c .before .before .compare .ensures)
 
@@ -29,4 +17,11 @@ returns-3 c = ap isBelow (sym (c .enum-told3 .given .1) ∙ c .before .before .c
 pub rises-spec : {M : Type 1} → statement M
 rises-spec =
     tie.close
-    (tie.spec compare-requires enum-told enum-told-2 enum-told-3 returns returns-2 returns-3)
+    (tie.spec
+    (λ c κs. search needs)
+    (λ c. search needs)
+    (λ c. search needs)
+    (λ c. search needs)
+    returns
+    returns-2
+    returns-3)

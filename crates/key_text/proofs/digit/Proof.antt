@@ -6,12 +6,6 @@ use Rattle.key_text.proofs.Laws.{decimal, upper, lower, no-digit}
 use Rattle.key_text.proofs.digit.Statement.{statement}
 use Rattle.key_text.proofs.digit.Tie as tie
 
-add-result : tie.Need-add-result
-add-result c = search needs
-
-add-result-2 : tie.Need-add-result-2
-add-result-2 c = search needs
-
 returns : tie.Need-returns
 returns c = decimal _ (c .before .if1 .left) (c .if2 .taken)
 
@@ -37,8 +31,8 @@ pub digit-spec : {M : Type 1} → statement M
 digit-spec =
     tie.close
     (tie.spec
-    add-result
-    add-result-2
+    (λ c. search needs)
+    (λ c. search needs)
     returns
     returns-2
     returns-3

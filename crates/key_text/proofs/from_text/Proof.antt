@@ -7,19 +7,10 @@ use Rattle.key_text.proofs.Laws.{right-key-length, right-text-length, r
 use Rattle.key_text.proofs.from_text.Statement.{statement}
 use Rattle.key_text.proofs.from_text.Tie as tie
 
-check-requires : tie.Need-check-requires
-check-requires c κs = search needs
-
-enum-told : tie.Need-enum-told
-enum-told c = search needs
-
 returns : tie.Need-returns
 returns c =
     let e = c .before .before .check .ensures in
     (e, carried-refused _ _ (refused-is _ _ e (c .enum-told .given .1)))
-
-enum-told-2 : tie.Need-enum-told-2
-enum-told-2 c = search needs
 
 read-requires : tie.Need-read-requires
 read-requires c κs =
@@ -33,4 +24,4 @@ returns-2 c =
 
 pub from-text-spec : {M : Type 1} → statement M
 from-text-spec =
-    tie.close (tie.spec check-requires enum-told returns enum-told-2 read-requires returns-2)
+    tie.close (tie.spec (λ c κs. search needs) (λ c. search needs) returns (λ c. search needs) read-requires returns-2)

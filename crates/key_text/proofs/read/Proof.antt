@@ -19,27 +19,6 @@ abbrev μ-loop : tie.MeasureT-loop
 loop-holds : tie.Need-loop-holds Inv-loop μ-loop
 loop-holds c = (search needs, paste-zero (replicate 16 0) 0 (textBytes (c .before .args .text .now)))
 
-mul-digit : tie.Need-mul-digit Inv-loop μ-loop
-mul-digit c = search needs
-
-shared-slice-read-digit : tie.Need-shared-slice-read-digit Inv-loop μ-loop
-shared-slice-read-digit c = search needs
-
-digit-requires : tie.Need-digit-requires Inv-loop μ-loop
-digit-requires c κs = search needs
-
-mul-digit-2 : tie.Need-mul-digit-2 Inv-loop μ-loop
-mul-digit-2 c = search needs
-
-add-digit : tie.Need-add-digit Inv-loop μ-loop
-add-digit c = search needs
-
-shared-slice-read-digit-2 : tie.Need-shared-slice-read-digit-2 Inv-loop μ-loop
-shared-slice-read-digit-2 c = search needs
-
-digit-requires-2 : tie.Need-digit-requires-2 Inv-loop μ-loop
-digit-requires-2 c κs = search needs
-
 both-below : (c : tie.After-digit2 Inv-loop μ-loop) → (c .before .before .digit .result < 16) × (c .digit2 .result < 16)
 both-below c =
     let start = c .before .before .before .before .before .before .before in
@@ -54,15 +33,6 @@ mul-bytes c = omega (arith, both-below c)
 
 add-bytes : tie.Need-add-bytes Inv-loop μ-loop
 add-bytes c = omega (arith, both-below c)
-
-array-write-bytes : tie.Need-array-write-bytes Inv-loop μ-loop
-array-write-bytes c = search needs
-
-add-at : tie.Need-add-at Inv-loop μ-loop
-add-at c = search needs
-
-loop-less : tie.Need-loop-less Inv-loop μ-loop
-loop-less c = search needs
 
 loop-again : tie.Need-loop-again Inv-loop μ-loop
 loop-again c =
@@ -84,17 +54,17 @@ read-spec =
     Inv-loop
     μ-loop
     loop-holds
-    mul-digit
-    shared-slice-read-digit
-    digit-requires
-    mul-digit-2
-    add-digit
-    shared-slice-read-digit-2
-    digit-requires-2
+    (λ c. search needs)
+    (λ c. search needs)
+    (λ c κs. search needs)
+    (λ c. search needs)
+    (λ c. search needs)
+    (λ c. search needs)
+    (λ c κs. search needs)
     mul-bytes
     add-bytes
-    array-write-bytes
-    add-at
-    loop-less
+    (λ c. search needs)
+    (λ c. search needs)
+    (λ c. search needs)
     loop-again
     returns)

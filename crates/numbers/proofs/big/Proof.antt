@@ -7,26 +7,8 @@ use Rattle.numbers.proofs.Laws.{bigAt-agree}
 use Rattle.numbers.proofs.big.Statement.{statement}
 use Rattle.numbers.proofs.big.Tie as tie
 
-least-requires : tie.Need-least-requires
-least-requires c κs = search needs
-
-rest-requires : tie.Need-rest-requires
-rest-requires c κs = search needs
-
-big-inside-requires : tie.Need-big-inside-requires
-big-inside-requires c κs = search needs
-
 returns : tie.Need-returns
 returns c = cc
-
-padded-requires : tie.Need-padded-requires
-padded-requires c κs = search needs
-
-slice-aggregate-big-inside : tie.Need-slice-aggregate-big-inside
-slice-aggregate-big-inside c = search needs
-
-big-inside-requires-2 : tie.Need-big-inside-requires-2
-big-inside-requires-2 c κs = search needs
 
 returns-2 : tie.Need-returns-2
 returns-2 c =
@@ -40,11 +22,11 @@ pub big-spec : {M : Type 1} → statement M
 big-spec =
     tie.close
     (tie.spec
-    least-requires
-    rest-requires
-    big-inside-requires
+    (λ c κs. search needs)
+    (λ c κs. search needs)
+    (λ c κs. search needs)
     returns
-    padded-requires
-    slice-aggregate-big-inside
-    big-inside-requires-2
+    (λ c κs. search needs)
+    (λ c. search needs)
+    (λ c κs. search needs)
     returns-2)

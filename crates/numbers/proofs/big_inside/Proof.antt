@@ -31,25 +31,10 @@ loop-holds c = (search needs, refl)
 mul-number : tie.Need-mul-number Inv-loop μ-loop
 mul-number c = simp add-zero at (one-more-fits {byte = 0} (search needs) (below (c .before)) (lit< tt))
 
-add-wide : tie.Need-add-wide Inv-loop μ-loop
-add-wide c = search needs
-
-shared-slice-read-wide : tie.Need-shared-slice-read-wide Inv-loop μ-loop
-shared-slice-read-wide c = search needs
-
-wide-requires : tie.Need-wide-requires Inv-loop μ-loop
-wide-requires c κs = search needs
-
 add-number : tie.Need-add-number Inv-loop μ-loop
 add-number c =
     let at-loop = c .before .before .before in
     one-more-fits (search needs) (below at-loop) (rw (c .wide .ensures) (bytes at-loop _))
-
-add-read : tie.Need-add-read Inv-loop μ-loop
-add-read c = search needs
-
-loop-less : tie.Need-loop-less Inv-loop μ-loop
-loop-less c = search needs
 
 loop-again : tie.Need-loop-again Inv-loop μ-loop
 loop-again c = (search needs, rw (c .before .before .before .loop .inv .1, add-one, bigAt-last, c .wide .ensures))
@@ -68,11 +53,11 @@ big-inside-spec =
     μ-loop
     loop-holds
     mul-number
-    add-wide
-    shared-slice-read-wide
-    wide-requires
+    (λ c. search needs)
+    (λ c. search needs)
+    (λ c κs. search needs)
     add-number
-    add-read
-    loop-less
+    (λ c. search needs)
+    (λ c. search needs)
     loop-again
     returns)

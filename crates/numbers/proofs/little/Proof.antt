@@ -7,26 +7,8 @@ use Rattle.numbers.proofs.Laws.{littleAt-agree}
 use Rattle.numbers.proofs.little.Statement.{statement}
 use Rattle.numbers.proofs.little.Tie as tie
 
-least-requires : tie.Need-least-requires
-least-requires c κs = search needs
-
-rest-requires : tie.Need-rest-requires
-rest-requires c κs = search needs
-
-little-inside-requires : tie.Need-little-inside-requires
-little-inside-requires c κs = search needs
-
 returns : tie.Need-returns
 returns c = cc
-
-padded-requires : tie.Need-padded-requires
-padded-requires c κs = search needs
-
-slice-aggregate-little-inside : tie.Need-slice-aggregate-little-inside
-slice-aggregate-little-inside c = search needs
-
-little-inside-requires-2 : tie.Need-little-inside-requires-2
-little-inside-requires-2 c κs = search needs
 
 returns-2 : tie.Need-returns-2
 returns-2 c =
@@ -40,11 +22,11 @@ pub little-spec : {M : Type 1} → statement M
 little-spec =
     tie.close
     (tie.spec
-    least-requires
-    rest-requires
-    little-inside-requires
+    (λ c κs. search needs)
+    (λ c κs. search needs)
+    (λ c κs. search needs)
     returns
-    padded-requires
-    slice-aggregate-little-inside
-    little-inside-requires-2
+    (λ c κs. search needs)
+    (λ c. search needs)
+    (λ c κs. search needs)
     returns-2)

@@ -27,28 +27,13 @@ loop-holds : tie.Need-loop-holds Inv-loop μ-loop
 unfolding littleAt
 loop-holds c = (search needs, rw sub-self)
 
-sub-left : tie.Need-sub-left Inv-loop μ-loop
-sub-left c = search needs
-
 mul-number : tie.Need-mul-number Inv-loop μ-loop
 mul-number c = simp add-zero at (one-more-fits {byte = 0} (search needs) (below (c .before)) (lit< tt))
-
-add-wide : tie.Need-add-wide Inv-loop μ-loop
-add-wide c = search needs
-
-shared-slice-read-wide : tie.Need-shared-slice-read-wide Inv-loop μ-loop
-shared-slice-read-wide c = search needs
-
-wide-requires : tie.Need-wide-requires Inv-loop μ-loop
-wide-requires c κs = search needs
 
 add-number : tie.Need-add-number Inv-loop μ-loop
 add-number c =
     let at-loop = c .before .before .before in
     one-more-fits (search needs) (below at-loop) (rw (c .wide .ensures) (bytes at-loop _))
-
-loop-less : tie.Need-loop-less Inv-loop μ-loop
-loop-less c = search needs
 
 loop-again : tie.Need-loop-again Inv-loop μ-loop
 loop-again c =
@@ -71,12 +56,12 @@ little-inside-spec =
     Inv-loop
     μ-loop
     loop-holds
-    sub-left
+    (λ c. search needs)
     mul-number
-    add-wide
-    shared-slice-read-wide
-    wide-requires
+    (λ c. search needs)
+    (λ c. search needs)
+    (λ c κs. search needs)
     add-number
-    loop-less
+    (λ c. search needs)
     loop-again
     returns)

@@ -9,9 +9,6 @@ use borrow.Author.Needs.{needs}
 use Rattle.spec_table.proofs.block_from.Statement.{statement}
 use Rattle.spec_table.proofs.block_from.Tie as tie
 
-part-requires : tie.Need-part-requires
-part-requires c κs = search needs
-
 returns : tie.Need-returns
 returns c =
     let a = c .before .before .args in
@@ -20,4 +17,4 @@ returns c =
     (own-part (a .table .now) (a .at) 1024 block (search needs) (c .part .ensures .0), omega arith)
 
 pub block-from-spec : {M : Type 1} → statement M
-block-from-spec = tie.close (tie.spec part-requires returns)
+block-from-spec = tie.close (tie.spec (λ c κs. search needs) returns)

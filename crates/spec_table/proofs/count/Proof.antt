@@ -16,23 +16,8 @@ abbrev μ-loop : tie.MeasureT-loop
 loop-holds : tie.Need-loop-holds Inv-loop μ-loop
 loop-holds c = counted-none _
 
-block-from-requires : tie.Need-block-from-requires Inv-loop μ-loop
-block-from-requires c κs = search needs
-
-zeros-requires : tie.Need-zeros-requires Inv-loop μ-loop
-zeros-requires c κs = search needs
-
-cast-found : tie.Need-cast-found Inv-loop μ-loop
-cast-found c = search needs
-
 add-found : tie.Need-add-found Inv-loop μ-loop
 add-found c = omega (arith, count-most (c .before .block-from .result .now), c .zeros .ensures)
-
-add-at : tie.Need-add-at Inv-loop μ-loop
-add-at c = search needs
-
-loop-less : tie.Need-loop-less Inv-loop μ-loop
-loop-less c = search needs
 
 loop-again : tie.Need-loop-again Inv-loop μ-loop
 loop-again c = counted-block (c .before .before .before .loop .inv) _ _ (c .before .block-from .ensures .0) (c .zeros .ensures)
@@ -47,11 +32,11 @@ count-spec =
     Inv-loop
     μ-loop
     loop-holds
-    block-from-requires
-    zeros-requires
-    cast-found
+    (λ c κs. search needs)
+    (λ c κs. search needs)
+    (λ c. search needs)
     add-found
-    add-at
-    loop-less
+    (λ c. search needs)
+    (λ c. search needs)
     loop-again
     returns)

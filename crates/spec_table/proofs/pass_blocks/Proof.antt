@@ -15,26 +15,13 @@ abbrev μ-loop : tie.MeasureT-loop
 loop-holds : tie.Need-loop-holds Inv-loop μ-loop
 loop-holds c = begins-first _ _
 
-block-from-requires : tie.Need-block-from-requires Inv-loop μ-loop
-block-from-requires c κs = search needs
-
-zeros-requires : tie.Need-zeros-requires Inv-loop μ-loop
-zeros-requires c κs = search needs
-
 returns : tie.Need-returns Inv-loop μ-loop
 returns c = c .before .before .before .before .loop .inv .start
 
-sub-left : tie.Need-sub-left Inv-loop μ-loop
-sub-left c = search needs
-
-add-at : tie.Need-add-at Inv-loop μ-loop
-add-at c = search needs
-
-loop-less : tie.Need-loop-less Inv-loop μ-loop
-loop-less c = search needs
-
 loop-again : tie.Need-loop-again Inv-loop μ-loop
-loop-again c = begins-block (c .before .before .before .before .loop .inv) _ _ (c .before .before .block-from .ensures .0) (c .before .zeros .ensures) (c .if1 .left)
+loop-again c =
+    let block = c .before .before in
+    begins-block (block .before .before .loop .inv) _ _ (block .block-from .ensures .0) (c .before .zeros .ensures) (c .if1 .left)
 
 returns-2 : tie.Need-returns-2 Inv-loop μ-loop
 returns-2 c = c .before .loop .inv .start
@@ -46,11 +33,11 @@ pass-blocks-spec =
     Inv-loop
     μ-loop
     loop-holds
-    block-from-requires
-    zeros-requires
+    (λ c κs. search needs)
+    (λ c κs. search needs)
     returns
-    sub-left
-    add-at
-    loop-less
+    (λ c. search needs)
+    (λ c. search needs)
+    (λ c. search needs)
     loop-again
     returns-2)

@@ -7,12 +7,6 @@ use borrow.Author.Needs.{needs}
 use Rattle.spec_table.proofs.string.Statement.{statement}
 use Rattle.spec_table.proofs.string.Tie as tie
 
-start-requires : tie.Need-start-requires
-start-requires c κs = search needs
-
-length-requires : tie.Need-length-requires
-length-requires c κs = search needs
-
 -- the place and length are known
 abbrev begun : tie.After-length → tie.Start
 begun n = n .before .before .before
@@ -21,9 +15,6 @@ add-if1 : tie.Need-add-if1
 add-if1 c =
     let a = begun c .args in
     omega (arith, ends-inside (a .table .now) (a .number) _ _ (c .before .start .ensures) (c .length .ensures))
-
-part-requires : tie.Need-part-requires
-part-requires c κs = search needs
 
 returns : tie.Need-returns
 returns c =
@@ -35,9 +26,6 @@ returns c =
       r .0 ∙ string-there t (a .number) _ _ (n .before .start .ensures) (n .length .ensures) (c .before .if1 .taken),
       (r .1 .0, r .1 .1 ∙ ap (λ p. a .table .ptr .1 + p) place),
     )
-
-part-requires-2 : tie.Need-part-requires-2
-part-requires-2 c κs = search needs
 
 returns-2 : tie.Need-returns-2
 returns-2 c =
@@ -53,10 +41,10 @@ pub string-spec : {M : Type 1} → statement M
 string-spec =
     tie.close
     (tie.spec
-    start-requires
-    length-requires
+    (λ c κs. search needs)
+    (λ c κs. search needs)
     add-if1
-    part-requires
+    (λ c κs. search needs)
     returns
-    part-requires-2
+    (λ c κs. search needs)
     returns-2)

@@ -20,15 +20,6 @@ abbrev μ-loop : tie.MeasureT-loop
 loop-holds : tie.Need-loop-holds Inv-loop μ-loop
 loop-holds c = (search needs, refl, search needs, sym (append-nil (decimal (c .before .args .n))))
 
-cast-digits : tie.Need-cast-digits Inv-loop μ-loop
-cast-digits c = search needs
-
-add-digits : tie.Need-add-digits Inv-loop μ-loop
-add-digits c = search needs
-
-array-write-digits : tie.Need-array-write-digits Inv-loop μ-loop
-array-write-digits c = search needs
-
 sub-first : tie.Need-sub-first Inv-loop μ-loop
 sub-first c = omega (arith, two-left (c .before .loop .first) (c .before .loop .rest) (omega arith) (c .before .loop .inv .2))
 
@@ -45,38 +36,17 @@ loop-again c =
       digit-turn (c .before .before .before .args .n) (l .first) (l .rest) (l .digits) (omega arith) left (omega arith) (l .inv .3),
     )
 
-cast-digits-2 : tie.Need-cast-digits-2 Inv-loop μ-loop
-cast-digits-2 c = search needs
-
-add-digits-2 : tie.Need-add-digits-2 Inv-loop μ-loop
-add-digits-2 c = search needs
-
-array-write-digits-2 : tie.Need-array-write-digits-2 Inv-loop μ-loop
-array-write-digits-2 c = search needs
-
-sub-put : tie.Need-sub-put Inv-loop μ-loop
-sub-put c = search needs
-
-part-put-start : tie.Need-part-put-start Inv-loop μ-loop
-part-put-start c = search needs
-
 part-put-end : tie.Need-part-put-end Inv-loop μ-loop
 part-put-end c =
     let l = c .before .before .loop in
     omega (arith, length-set (l .digits) (l .first) (48 + l .rest), l .inv .1)
 
-put-requires : tie.Need-put-requires Inv-loop μ-loop
-put-requires c κs = search needs
-
-same-length : tie.Need-same-length Inv-loop μ-loop
-same-length c = search needs
-
 returns : tie.Need-returns Inv-loop μ-loop
 returns c =
-    let l = c .before .before .before .before .before .before .before .loop in
-    let a = c .before .before .before .before .before .before .before .before .before .args in
-    let left = c .before .before .before .before .before .before .loop-test .left in
-    rw (digit-last (a .n) (l .first) (l .rest) (l .digits) left (l .inv .0) (l .inv .1) (l .inv .3)) at (c .before .before .put .ensures)
+    let end = c .before .before .before .before .before .before in
+    let l = end .before .loop in
+    let n = end .before .before .before .args .n in
+    rw (digit-last n (l .first) (l .rest) (l .digits) (end .loop-test .left) (l .inv .0) (l .inv .1) (l .inv .3)) at (c .before .before .put .ensures)
 
 pub put-decimal-spec : {M : Type 1} → statement M
 put-decimal-spec =
@@ -85,18 +55,18 @@ put-decimal-spec =
     Inv-loop
     μ-loop
     loop-holds
-    cast-digits
-    add-digits
-    array-write-digits
+    (λ c. search needs)
+    (λ c. search needs)
+    (λ c. search needs)
     sub-first
     loop-less
     loop-again
-    cast-digits-2
-    add-digits-2
-    array-write-digits-2
-    sub-put
-    part-put-start
+    (λ c. search needs)
+    (λ c. search needs)
+    (λ c. search needs)
+    (λ c. search needs)
+    (λ c. search needs)
     part-put-end
-    put-requires
-    same-length
+    (λ c κs. search needs)
+    (λ c. search needs)
     returns)

@@ -21,33 +21,22 @@ loop-holds : tie.Need-loop-holds Inv-loop μ-loop
 unfolding hex
 loop-holds c = (search needs, put-none _ _ (search needs))
 
-shared-slice-read-b : tie.Need-shared-slice-read-b Inv-loop μ-loop
-shared-slice-read-b c = search needs
-
 hex-digit-requires : tie.Need-hex-digit-requires Inv-loop μ-loop
 hex-digit-requires c κs = omega (arith, c .shared-slice-known2 .given (c .before .before .loop .i))
 
 hex-digit-requires-2 : tie.Need-hex-digit-requires-2 Inv-loop μ-loop
 hex-digit-requires-2 c κs = omega (arith, c .before .shared-slice-known2 .given (c .before .before .before .loop .i))
 
-slice-aggregate-put : tie.Need-slice-aggregate-put Inv-loop μ-loop
-slice-aggregate-put c = search needs
-
-put-requires : tie.Need-put-requires Inv-loop μ-loop
-put-requires c κs = search needs
-
-add-i : tie.Need-add-i Inv-loop μ-loop
-add-i c = search needs
-
-loop-less : tie.Need-loop-less Inv-loop μ-loop
-loop-less c = search needs
-
 loop-again : tie.Need-loop-again Inv-loop μ-loop
 loop-again c =
-    let l = c .before .before .before .before .before .before .before .before .before .loop in
-    let s = c .before .before .before .before .before .before .before .before .before .before .before .before .args .bytes .now in (
+    let low = c .before .before .before .before .before in
+    let high = low .before in
+    let turn = high .before .before in
+    let l = turn .before .loop in
+    let s = turn .before .before .before .before .args .bytes .now in (
       search needs,
-      hex-turn s (l .i) _ _ (search needs) (c .before .before .before .before .before .before .before .before .loop-test .taken) (c .before .before .before .before .before .before .hex-digit .ensures) (c .before .before .before .before .before .hex-digit2 .ensures) (l .inv .1) (told _ _ _ _ _ (c .before .before .put .ensures)),
+      hex-turn s (l .i) _ _ (search needs) (turn .loop-test .taken) (high .hex-digit .ensures) (low .hex-digit2 .ensures) (l .inv .1)
+          (told _ _ _ _ _ (c .before .before .put .ensures)),
     )
 
 same-length : tie.Need-same-length Inv-loop μ-loop
@@ -65,13 +54,13 @@ put-hex-spec =
     Inv-loop
     μ-loop
     loop-holds
-    shared-slice-read-b
+    (λ c. search needs)
     hex-digit-requires
     hex-digit-requires-2
-    slice-aggregate-put
-    put-requires
-    add-i
-    loop-less
+    (λ c. search needs)
+    (λ c κs. search needs)
+    (λ c. search needs)
+    (λ c. search needs)
     loop-again
     same-length
     returns)

@@ -18,4 +18,10 @@ returns-2 c = crosses-as (sym (ap boundOutcome (c .before .before .told2 .given 
 pub tell-bound-spec : {M : Type 1} → statement M
 tell-bound-spec =
     tie.close
-    (tie.spec (λ c. search needs) (λ c κs. search needs) (λ c. search needs) (λ c. search needs) returns returns-2)
+    (tie.spec
+    (λ c. search needs)
+    (λ c κs. search needs)
+    (λ c. search needs)
+    (λ c. search needs)
+    returns
+    returns-2)

@@ -5,18 +5,9 @@ use borrow.Author.Needs.{needs}
 use Rattle.envelope_header.proofs.Header.encoded_size.Statement.{statement}
 use Rattle.envelope_header.proofs.Header.encoded_size.Tie as tie
 
-row-at-requires : tie.Need-row-at-requires
-row-at-requires c κs = search needs
-
-big-requires : tie.Need-big-requires
-big-requires c κs = search needs
-
 returns : tie.Need-returns
 unfolding encodedSize
 returns c = rw (ne-eqb _ 0 (c .before .before .if1 .taken), c .big .ensures, c .before .row-at .ensures)
-
-rest-requires : tie.Need-rest-requires
-rest-requires c κs = search needs
 
 returns-2 : tie.Need-returns-2
 unfolding encodedSize
@@ -24,4 +15,4 @@ returns-2 c = rw (eq-eqb _ 0 (c .before .if1 .left), c .rest .ensures)
 
 pub encoded-size-spec : {M : Type 1} → statement M
 encoded-size-spec =
-    tie.close (tie.spec row-at-requires big-requires returns rest-requires returns-2)
+    tie.close (tie.spec (λ c κs. search needs) (λ c κs. search needs) returns (λ c κs. search needs) returns-2)

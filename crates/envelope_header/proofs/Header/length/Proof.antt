@@ -5,9 +5,6 @@ use borrow.Author.Needs.{needs}
 use Rattle.envelope_header.proofs.Header.length.Statement.{statement}
 use Rattle.envelope_header.proofs.Header.length.Tie as tie
 
-row-at-requires : tie.Need-row-at-requires
-row-at-requires c κs = search needs
-
 returns : tie.Need-returns
 unfolding headerLength rowAt
 returns c = rw (ne-eqb _ 0 (c .before .if1 .taken), c .row-at .ensures)
@@ -17,4 +14,4 @@ unfolding headerLength
 returns-2 c = rw (eq-eqb _ 0 (c .if1 .left))
 
 pub length-spec : {M : Type 1} → statement M
-length-spec = tie.close (tie.spec row-at-requires returns returns-2)
+length-spec = tie.close (tie.spec (λ c κs. search needs) returns returns-2)
