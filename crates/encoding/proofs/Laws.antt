@@ -20,9 +20,9 @@ use Rattle.encoding_header.specs.Header.{tableOf, pageSize, pageAt, pageEnd, pa
 use Rattle.encoding_header.proofs.Bounds.{TypedHeader, page-most}
 use Rattle.encoding_page.specs.declared.Span.{Span}
 use Rattle.encoding_page.specs.declared.Walked.{Walked}
-use Rattle.encoding_page.specs.Entries.{walkFrom, keyAt, lastKey, rising, all, specKnown, startsWith, overEnd, spanOf, keySpan, lastSpan}
+use Rattle.encoding_page.specs.Entries.{walkFrom, keyAt, lastKey, rising, all, specKnown, startsWith, overEnd, spanOf, keySpan, lastSpan, entriesOf}
 use Rattle.encoding_page.proofs.Laws.{last-spanned}
-use Rattle.encoding.specs.Check.{entriesOf, keyBefore, specsOf, hashRight, entryOver, firstKeyRight, keysRise, specsKnown, inOrder, pageCheck, pagesCheck}
+use Rattle.encoding.specs.Check.{keyBefore, specsOf, hashRight, entryOver, firstKeyRight, keysRise, specsKnown, inOrder, pageCheck, pagesCheck}
 
 -- ---- one page
 
@@ -101,7 +101,8 @@ module _ (s : List ℕ) (h : Header) (kind : Kind) where
     pub checked-said : {number place : ℕ} → i < tableOf h kind .pages → pageCheck s h kind i ≡ refused number place → pagesCheck s h kind ≡ refused number place
     checked-said l e = c .rest ∙ upto-said (pageCheck s h kind) i (tableOf h kind .pages) l e
 
-    pub checked-next : (next : Span) → i < tableOf h kind .pages → pageCheck s h kind i ≡ silent → spanOf s next ≡ keyBefore s h kind (i + 1) → Checked s h kind (i + 1) next
+    pub checked-next : (next : Span) → i < tableOf h kind .pages → pageCheck s h kind i ≡ silent → spanOf s next ≡ keyBefore s h kind (i + 1)
+        → Checked s h kind (i + 1) next
     checked-next next l e k = record { key = k; rest = c .rest ∙ upto-quiet (pageCheck s h kind) i (tableOf h kind .pages) l e }
 
     pub checked-all : tableOf h kind .pages ≤ i → pagesCheck s h kind ≡ silent

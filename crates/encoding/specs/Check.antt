@@ -10,12 +10,8 @@ use Rattle.spec_table.specs.Specs.{countOf}
 use Rattle.encoding_header.specs.declared.Kind.{Kind}
 use Rattle.encoding_header.specs.declared.Kind.the-variants.{Content, Encoding}
 use Rattle.encoding_header.specs.declared.Header.{Header}
-use Rattle.encoding_header.specs.Header.{tableOf, pageAt, pageEnd, pageOf, pageHash, firstKey, specTable, headerOf, opening}
-use Rattle.encoding_page.specs.Entries.{Walk, walkFrom, keyAt, rising, lastKey, all, specKnown, startsWith, overEnd}
-
--- The entries of page i.
-unfoldable pub entriesOf : List ℕ → Header → Kind → ℕ → Walk
-entriesOf s h kind i = walkFrom s h kind (pageEnd h kind i) (pageAt h kind i)
+use Rattle.encoding_header.specs.Header.{tableOf, pageEnd, pageOf, pageHash, firstKey, specTable, headerOf, opening}
+use Rattle.encoding_page.specs.Entries.{entriesOf, keyAt, rising, lastKey, all, specKnown, startsWith, overEnd}
 
 -- The last key in the pages before page i (rule E11); before the first key the empty one, which is below every key.
 unfoldable pub keyBefore : List ℕ → Header → Kind → ℕ → List ℕ

@@ -18,14 +18,16 @@ use Rattle.encoding_header.specs.declared.Kind.the-variants.{Content, Encoding}
 use Rattle.encoding_header.specs.declared.Header.{Header}
 use Rattle.encoding_header.specs.Header.{headerOf, tableOf, pageEnd, specTable, opening}
 use Rattle.encoding_header.proofs.Laws.{whole, page-end}
-use Rattle.encoding_page.specs.Entries.{entrySize, ended, specNumber, specKnown}
+use Rattle.encoding_page.specs.Entries.{entrySize, ended, specNumber, specKnown, allEntries}
 use Rattle.encoding_page.proofs.Laws.{entry-left, entry-inside, content-ended}
-use Rattle.encoding.specs.Check.{entriesOf, specsOf, pagesCheck, fullCheck}
-use Rattle.encoding_lookup.specs.Lookup.{lookupCheck, runAt, runLength, contentTold, contentLookup, toldValue, placeTold, partTold, encodingKeys, encodingKeysAt, encodingTold, encodingLookup, encodingSpec, encodingSpecAt}
+use Rattle.encoding_page.proofs.AllEntries.{every-page, page-all}
+use Rattle.encoding.specs.Check.{specsOf, pagesCheck, fullCheck}
+use Rattle.encoding_lookup.specs.Lookup.{lookupCheck, runAt, runLength, contentTold, contentLookup, toldValue, placeTold, partTold}
+use Rattle.encoding_lookup.specs.Lookup.{encodingKeys, encodingKeysAt, encodingTold, encodingLookup, encodingSpec, encodingSpecAt}
 use Rattle.encoding_lookup.proofs.Laws.{key-right}
-use Rattle.encoding_agreement.specs.Plain.{Plain, found, allEntries, plainReading, plainTold, contentValues, plainContent, encodingValues, plainEncoding}
+use Rattle.encoding_agreement.specs.Plain.{Plain, found, plainReading, plainTold, contentValues, plainContent, encodingValues, plainEncoding}
 use Rattle.encoding_agreement.specs.Agreement.{Run, ContentAgrees, ContentAgreement, SpecOfEntry, EncodingAgrees, EncodingAgreement}
-use Rattle.encoding_agreement.proofs.Entries.{all-from, all-found, page-all}
+use Rattle.encoding_agreement.proofs.Entries.{all-found}
 use Rattle.encoding_agreement.proofs.Checked.{specs-known}
 use Rattle.encoding_agreement.proofs.Search.{search-told}
 use Rattle.encoding_agreement.proofs.Specs.{spec-quiet, stands}
@@ -38,12 +40,10 @@ module _ (s : List ℕ) (kind : Kind) (key : List ℕ) (begun : opening s ≡ si
   found-holds : (test : ℕ → Bool)
       → ((i : ℕ) → i < tableOf (headerOf s) kind .pages → (at : ℕ) → ended s (headerOf s) kind (pageEnd (headerOf s) kind i) at ≡ false → test at ≡ true)
       → (at : ℕ) → plainReading s kind key ≡ found at → test at ≡ true
-  unfolding plainReading allEntries entriesOf
+  unfolding plainReading
   found-holds test holds at f =
       let h : Header = headerOf s in
-      all-found test _ key (allEntries s h kind)
-      (all-from test _ 0 (tableOf h kind .pages) (λ i l. page-all test s h kind (pageEnd h kind i) (holds i (omega arith)) _))
-      at f
+      all-found test _ key (allEntries s h kind) (every-page test s h kind (λ i l. page-all test s h kind i (holds i l))) at f
 
   -- that entry ends inside the file
   found-inside : (at : ℕ) → plainReading s kind key ≡ found at → at + entrySize s (headerOf s) kind at ≤ length s
@@ -117,12 +117,12 @@ module _ (s : List ℕ) (passed : fullCheck s ≡ silent) where
 
   module _ (key : List ℕ) (size : length key ≡ headerOf s .encoding .«key_size») where
     number-known : (at : ℕ) → plainReading s Encoding key ≡ found at → specNumber s (headerOf s) at < countOf (specTable s (headerOf s))
-    unfolding plainReading allEntries specKnown specsOf
+    unfolding plainReading specKnown specsOf
     number-known at f =
         let h : Header = headerOf s in
         ltb-true _ _
         (all-found (specKnown s h Encoding (specsOf s h)) _ key (allEntries s h Encoding)
-        (all-from _ _ 0 (tableOf h Encoding .pages) (λ i l. specs-known s h Encoding encoding-silent i (omega arith)))
+        (every-page _ s h Encoding (specs-known s h Encoding encoding-silent))
         at f)
 
     encoding-same : encodingLookup s key ≡ plainEncoding s key

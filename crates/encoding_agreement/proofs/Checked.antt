@@ -11,8 +11,8 @@ use Rattle.refusal.proofs.Laws.{first-left, first-right, silent-test, from-each
 use Rattle.encoding_header.specs.declared.Kind.{Kind}
 use Rattle.encoding_header.specs.declared.Header.{Header}
 use Rattle.encoding_header.specs.Header.{tableOf, pageEnd, firstKey}
-use Rattle.encoding_page.specs.Entries.{keyAt, rising, all, specKnown, startsWith, overEnd}
-use Rattle.encoding.specs.Check.{entriesOf, keyBefore, specsOf, hashRight, entryOver, firstKeyRight, keysRise, specsKnown, inOrder, pageCheck, pagesCheck}
+use Rattle.encoding_page.specs.Entries.{keyAt, rising, all, specKnown, startsWith, overEnd, entriesOf}
+use Rattle.encoding.specs.Check.{keyBefore, specsOf, hashRight, entryOver, firstKeyRight, keysRise, specsKnown, inOrder, pageCheck, pagesCheck}
 use Rattle.encoding_agreement.proofs.Pages.{Pages}
 
 -- What is found of a page of which none of 34 to 38 is told.

@@ -12,11 +12,11 @@ use Rattle.encoding_header.specs.declared.Header.{Header}
 use Rattle.encoding_header.specs.Header.{tableOf, pageEnd}
 use Rattle.encoding_page.specs.declared.Search.{Search}
 use Rattle.encoding_page.specs.declared.Search.the-variants.{At, End}
-use Rattle.encoding_page.specs.Entries.{Walk, keyAt, overEnd, searchIn}
-use Rattle.encoding.specs.Check.{entriesOf, pagesCheck}
+use Rattle.encoding_page.specs.Entries.{Walk, keyAt, overEnd, searchIn, entriesOf, allEntries}
+use Rattle.encoding.specs.Check.{pagesCheck}
 use Rattle.encoding_index.specs.Chosen.{firstAbove, pagesUpTo}
 use Rattle.encoding_lookup.specs.Lookup.{pageSeek, seekOn, seek, seekTold}
-use Rattle.encoding_agreement.specs.Plain.{Plain, found, nowhere, allEntries, firstWith, plainTold}
+use Rattle.encoding_agreement.specs.Plain.{Plain, found, nowhere, firstWith, plainTold}
 use Rattle.encoding_agreement.proofs.Pages.{Chosen, chosen, pageUpTo, pages-agree}
 use Rattle.encoding_agreement.proofs.Checked.{not-over, pages}
 

@@ -14,7 +14,8 @@ use Rattle.encoding_header.specs.declared.Header.{Header}
 use Rattle.encoding_header.specs.Header.{headerSize, headerOf, specTable, indexAt, opening}
 use Rattle.encoding_page.specs.Entries.{entrySize, specNumber}
 use Rattle.encoding.specs.Check.{fullCheck}
-use Rattle.encoding_lookup.specs.Lookup.{runAt, runLength, contentLookup, encodingKeys, encodingKeysAt, specAt, specLength, specLookup, specString, specStringAt, encodingLookup, encodingSpec, encodingSpecAt}
+use Rattle.encoding_lookup.specs.Lookup.{runAt, runLength, contentLookup, encodingKeys, encodingKeysAt, specAt, specLength, specLookup}
+use Rattle.encoding_lookup.specs.Lookup.{specString, specStringAt, encodingLookup, encodingSpec, encodingSpecAt}
 use Rattle.encoding_agreement.specs.Plain.{found, nowhere, plainReading, plainContent, plainEncoding, specsIn, plainSpec}
 
 -- ---- a spec by its number

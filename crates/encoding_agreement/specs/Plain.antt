@@ -5,7 +5,7 @@ use mathlib.Core.List.{List, [], _∷_}
 use Prim.Native.Nat.{ℕ, _+_}
 use lib.Dec.{ltb}
 use lib.ListN.{length, take, getD}
-use Rattle.parts.specs.Part.{byteAt, sameBytes, partsFrom}
+use Rattle.parts.specs.Part.{byteAt, sameBytes}
 use Rattle.numbers.specs.Number.{bigAt}
 use Rattle.refusal.specs.Number.{spec-number}
 use Rattle.refusal.specs.Outcome.{Outcome, answered, absent, refusal}
@@ -13,14 +13,9 @@ use Rattle.spec_table.specs.Specs.{runOf, strings}
 use Rattle.encoding_header.specs.declared.Kind.{Kind}
 use Rattle.encoding_header.specs.declared.Kind.the-variants.{Content, Encoding}
 use Rattle.encoding_header.specs.declared.Header.{Header}
-use Rattle.encoding_header.specs.Header.{headerSize, headerOf, tableOf, specTable}
-use Rattle.encoding_page.specs.Entries.{countWidth, sizeWidth, specWidth, keyAt, specNumber}
-use Rattle.encoding.specs.Check.{entriesOf}
+use Rattle.encoding_header.specs.Header.{headerSize, headerOf, specTable}
+use Rattle.encoding_page.specs.Entries.{countWidth, sizeWidth, specWidth, keyAt, specNumber, allEntries}
 use Rattle.encoding_lookup.specs.Lookup.{runAt, runLength, specAt, specLength}
-
--- The entries of all pages of a kind, joined.
-unfoldable pub allEntries : List ℕ → Header → Kind → List ℕ
-allEntries s h kind = partsFrom (λ i. entriesOf s h kind i .entries) 0 (tableOf h kind .pages)
 
 -- What the plain reading finds: an entry, or none.
 pub data Plain : Type 0 where

@@ -16,7 +16,8 @@ use Rattle.encoding_header.specs.declared.Kind.{Kind}
 use Rattle.encoding_header.specs.declared.Kind.the-variants.{Content, Encoding}
 use Rattle.encoding_header.specs.Header.{headerOf, tableOf, opening}
 use Rattle.encoding.specs.Check.{fullCheck}
-use Rattle.encoding_lookup.specs.Lookup.{lengthCheck, lookupCheck, contentLookup, encodingLookup, toldValue, specAt, specLength, specLookup, specString, specStringAt}
+use Rattle.encoding_lookup.specs.Lookup.{lengthCheck, lookupCheck, contentLookup, encodingLookup, toldValue}
+use Rattle.encoding_lookup.specs.Lookup.{specAt, specLength, specLookup, specString, specStringAt}
 use Rattle.encoding_agreement.specs.Plain.{plainContent, plainEncoding, specsIn, plainSpec}
 use Rattle.encoding_agreement.specs.Agreement.{SpecAgrees}
 use Rattle.encoding_agreement.proofs.Agreement.{content-agrees, encoding-agrees}

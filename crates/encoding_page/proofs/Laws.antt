@@ -108,8 +108,11 @@ module _ (s : List ℕ) (h : Header) (kind : Kind) (e : ℕ) where
   walk-same (suc f) zero at l m = rw (over-ended s h kind e at (omega (arith, size-some s h kind at)))
   walk-same (suc f) (suc g) at l m =
       by-test (ended s h kind e at) (λ t. rw t)
-      (λ t. ap (turn (ended s h kind e at) (padding s h kind at) at)
-      (walk-same f g (at + entrySize s h kind at) (omega (arith, size-some s h kind at, entry-inside s h kind e at t)) (omega (arith, size-some s h kind at, entry-inside s h kind e at t))))
+      (λ t.
+      let some = size-some s h kind at in
+      let inside = entry-inside s h kind e at t in
+      ap (turn (ended s h kind e at) (padding s h kind at) at)
+      (walk-same f g (at + entrySize s h kind at) (omega (arith, some, inside)) (omega (arith, some, inside))))
 
   -- one turn
   pub walk-step : (at : ℕ) → walkFrom s h kind e at ≡ turn (ended s h kind e at) (padding s h kind at) at (walkFrom s h kind e (at + entrySize s h kind at))
@@ -123,12 +126,14 @@ module _ (s : List ℕ) (h : Header) (kind : Kind) (e : ℕ) where
   unfolding turn
   walk-ended at t = walk-step at ∙ rw t
 
-  pub walk-padding : (at : ℕ) → ended s h kind e at ≡ false → padding s h kind at ≡ true → walkFrom s h kind e at ≡ walkFrom s h kind e (at + entrySize s h kind at)
+  pub walk-padding : (at : ℕ) → ended s h kind e at ≡ false → padding s h kind at ≡ true
+      → walkFrom s h kind e at ≡ walkFrom s h kind e (at + entrySize s h kind at)
   unfolding turn
   walk-padding at t p = walk-step at ∙ rw (t, p)
 
   pub walk-entry : (at : ℕ) → ended s h kind e at ≡ false → padding s h kind at ≡ false
-      → walkFrom s h kind e at ≡ record { entries = at ∷ walkFrom s h kind e (at + entrySize s h kind at) .entries; end = walkFrom s h kind e (at + entrySize s h kind at) .end }
+      → walkFrom s h kind e at
+      ≡ record { entries = at ∷ walkFrom s h kind e (at + entrySize s h kind at) .entries; end = walkFrom s h kind e (at + entrySize s h kind at) .end }
   unfolding turn
   walk-entry at t p = walk-step at ∙ rw (t, p)
 
@@ -154,7 +159,8 @@ module _ (s : List ℕ) (h : Header) (kind : Kind) (e : ℕ) where
   next-real : (at : ℕ) → ended s h kind e at ≡ false → padding s h kind at ≡ false → Next at (nextEntry s h kind e at)
   next-real at t p = rw (next-entry at t p) (record { forward = le-refl at; same = refl; real = λ u. p })
 
-  next-later : (from at : ℕ) → from ≤ at → walkFrom s h kind e from ≡ walkFrom s h kind e at → Next at (nextEntry s h kind e at) → Next from (nextEntry s h kind e from)
+  next-later : (from at : ℕ) → from ≤ at → walkFrom s h kind e from ≡ walkFrom s h kind e at → Next at (nextEntry s h kind e at)
+      → Next from (nextEntry s h kind e from)
   next-later from at l q n =
       let to : nextEntry s h kind e from ≡ nextEntry s h kind e at = ap (λ (w : Walk). headOr (w .entries) (w .end)) q in
       rw to (record { forward = omega (arith, n .forward); same = q ∙ n .same; real = n .real })
@@ -278,7 +284,8 @@ module _ (s : List ℕ) (h : Header) (kind : Kind) (e from : ℕ) (sought : List
 
   module _ (at : ℕ) (r : Searching s h kind e from sought at) where
     entry-searched : ended s h kind e at ≡ false
-        → searched s h kind sought (walkFrom s h kind e from) ≡ cond (sameBytes (keyAt s h kind at) sought) (At at) (searched s h kind sought (walkFrom s h kind e (at + entrySize s h kind at)))
+        → searched s h kind sought (walkFrom s h kind e from)
+        ≡ cond (sameBytes (keyAt s h kind at) sought) (At at) (searched s h kind sought (walkFrom s h kind e (at + entrySize s h kind at)))
     unfolding searchIn
     entry-searched t = r .same ∙ ap (searched s h kind sought) (walk-entry s h kind e at t (r .real t))
 

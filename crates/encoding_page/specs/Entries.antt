@@ -4,13 +4,13 @@ use mathlib.Core.Bool.{Bool, true, false, not, _&&_, _||_, cond}
 use mathlib.Core.List.{List, [], _∷_}
 use Prim.Native.Nat.{ℕ, zero, suc, _+_, _-_, _*_}
 use lib.Dec.{ltb, eqb}
-use Rattle.parts.specs.Part.{byteAt, partAt, sameBytes, allZero}
+use Rattle.parts.specs.Part.{byteAt, partAt, sameBytes, allZero, partsFrom}
 use Rattle.numbers.specs.Number.{bigAt}
 use Rattle.key.specs.Order.{compared, isBelow}
 use Rattle.encoding_header.specs.declared.Kind.{Kind}
 use Rattle.encoding_header.specs.declared.Kind.the-variants.{Content, Encoding}
 use Rattle.encoding_header.specs.declared.Header.{Header}
-use Rattle.encoding_header.specs.Header.{tableOf}
+use Rattle.encoding_header.specs.Header.{tableOf, pageAt, pageEnd}
 use Rattle.encoding_page.specs.declared.Span.{Span}
 use Rattle.encoding_page.specs.declared.Search.{Search}
 use Rattle.encoding_page.specs.declared.Search.the-variants.{At, End}
@@ -81,7 +81,15 @@ walkBy (suc fuel) s h kind e at =
 unfoldable pub walkFrom : List ℕ → Header → Kind → (e at : ℕ) → Walk
 walkFrom s h kind e at = walkBy (e - at) s h kind e at
 
--- The first of them, or where they end.
+-- The entries of page i.
+unfoldable pub entriesOf : List ℕ → Header → Kind → ℕ → Walk
+entriesOf s h kind i = walkFrom s h kind (pageEnd h kind i) (pageAt h kind i)
+
+-- The entries of all pages of a kind, joined.
+unfoldable pub allEntries : List ℕ → Header → Kind → List ℕ
+allEntries s h kind = partsFrom (λ i. entriesOf s h kind i .entries) 0 (tableOf h kind .pages)
+
+-- The first entry from an offset on, or where they end.
 unfoldable pub headOr : List ℕ → ℕ → ℕ
 headOr [] end = end
 headOr (at ∷ entries) end = at

@@ -11,18 +11,29 @@ use Rattle.md5.specs.Message.{littleBytes, padding as md5Padding, initial, dige
 use Rattle.refusal.specs.Check.{silent, refusedIf, first, firstFrom}
 use Rattle.text.specs.Text.{ascii}
 use Rattle.spec_table.specs.Specs.{runOf, countOf, startOf, beforeZero, lengthAt}
-use Rattle.encoding_header.specs.Header.{tableFrom, headerOf, tableOf, rowSize, pageSize, indexSize, tableSize, indexAt, rowAt, pageAt, pageEnd, endOf, firstKey, pageHash, pageOf, magicRight, tableRight, headerRight, opening}
-use Rattle.encoding_page.specs.Entries.{keyOffset, entrySize, keyAt, specNumber, padding, ended, turn, walkBy, walkFrom, rising, lastKey, all, specKnown, startsWith, overEnd}
-use Rattle.encoding.specs.Check.{entriesOf, keyBefore, specsOf, hashRight, entryOver, firstKeyRight, keysRise, specsKnown, inOrder, pageCheck, pagesCheck, fullCheck}
-use Rattle.encoding_agreement.specs.Plain.{allEntries, firstWith, plainReading, plainTold, contentValues, plainContent, encodingValues, plainEncoding}
+use Rattle.encoding_header.specs.Header.{tableFrom, headerOf, tableOf, rowSize, pageSize, indexSize, tableSize, indexAt, rowAt, pageAt}
+use Rattle.encoding_header.specs.Header.{pageEnd, endOf, firstKey, pageHash, pageOf, magicRight, tableRight, headerRight, opening}
+use Rattle.encoding_page.specs.Entries.{keyOffset, entrySize, keyAt, specNumber, padding, ended, turn, walkBy, entriesOf, allEntries}
+use Rattle.encoding_page.specs.Entries.{walkFrom, rising, lastKey, all, specKnown, startsWith, overEnd}
+use Rattle.encoding.specs.Check.{keyBefore, specsOf, hashRight, entryOver, firstKeyRight}
+use Rattle.encoding.specs.Check.{keysRise, specsKnown, inOrder, pageCheck, pagesCheck, fullCheck}
+use Rattle.encoding_agreement.specs.Plain.{firstWith, plainReading, plainTold, contentValues, plainContent, encodingValues, plainEncoding}
 use Rattle.encoding_parts.specs.File.{specs, header, contentEntries, firstEntries, lastEntry, contentIndex, encodingIndex, encodingFile, Example}
 
 passes : fullCheck encodingFile ≡ silent
-unfolding fullCheck pagesCheck pageCheck inOrder hashRight entryOver firstKeyRight keysRise specsKnown specsOf keyBefore entriesOf keyOffset entrySize keyAt specNumber padding ended turn walkBy walkFrom rising lastKey all specKnown startsWith overEnd opening headerRight tableRight magicRight tableFrom headerOf tableOf rowSize pageSize indexSize tableSize indexAt rowAt pageAt pageEnd endOf firstKey pageHash pageOf runOf countOf ascii refusedIf first firstFrom bigAt within sameBytes allZero compared decided addends shifts mixed wordNumber turned step steps word wordsOf sum block blocks littleBytes md5Padding initial digestOf md5 encodingFile
+unfolding fullCheck pagesCheck pageCheck inOrder hashRight entryOver firstKeyRight keysRise specsKnown specsOf keyBefore
+    entriesOf keyOffset entrySize keyAt specNumber padding ended turn walkBy walkFrom rising lastKey all specKnown startsWith
+    overEnd opening headerRight tableRight magicRight tableFrom headerOf tableOf rowSize pageSize indexSize tableSize indexAt
+    rowAt pageAt pageEnd endOf firstKey pageHash pageOf runOf countOf ascii refusedIf first firstFrom bigAt within sameBytes
+    allZero compared decided addends shifts mixed wordNumber turned step steps word wordsOf sum block blocks littleBytes
+    md5Padding initial digestOf md5 encodingFile
 passes = refl
 
 pub example : Example
-unfolding plainContent contentValues plainEncoding encodingValues plainTold plainReading firstWith allEntries partsFrom entriesOf keyOffset entrySize keyAt specNumber padding ended turn walkBy walkFrom tableFrom headerOf tableOf rowSize pageSize indexSize tableSize indexAt pageAt pageEnd runOf ascii bigAt sameBytes allZero startOf beforeZero lengthAt encodingFile
+unfolding plainContent contentValues plainEncoding encodingValues plainTold plainReading firstWith allEntries partsFrom
+    entriesOf keyOffset entrySize keyAt specNumber padding ended turn walkBy walkFrom tableFrom headerOf tableOf rowSize
+    pageSize indexSize tableSize indexAt pageAt pageEnd runOf ascii bigAt sameBytes allZero startOf beforeZero lengthAt
+    encodingFile
 example = record { passes = passes; content = refl; no-content = refl; encoding = refl }
 
 -- the parts of the file, each laid over what was there
