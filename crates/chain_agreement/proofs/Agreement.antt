@@ -35,14 +35,16 @@ use Rattle.chain_agreement.specs.Agreement.{Fit, Agrees, Calls, ChainAgr
 use Rattle.chain_agreement.proofs.Record.{found-whole}
 
 -- what follows a link matters for the values that it answers alone
-linked-same : (link : Link) (o : Outcome) (f g : List ℕ → Told) → ((values : List ℕ) → o ≡ answered values → f values ≡ g values) → linked link o f ≡ linked link o g
+linked-same : (link : Link) (o : Outcome) (f g : List ℕ → Told) → ((values : List ℕ) → o ≡ answered values → f values ≡ g values)
+    → linked link o f ≡ linked link o g
 unfolding linked
 linked-same link (answered values) f g h = h values refl
 linked-same link (absent values) f g h = refl
 linked-same link (refusal number place) f g h = refl
 
 -- the values of a content entry that the plain reading finds
-entry-values : (values : ℕ → List ℕ) (p : pages.Plain) (told : List ℕ) → plainTold values p ≡ answered told → (at : ℕ) × ((p ≡ pages.found at) × (told ≡ values at))
+entry-values : (values : ℕ → List ℕ) (p : pages.Plain) (told : List ℕ) → plainTold values p ≡ answered told
+    → (at : ℕ) × ((p ≡ pages.found at) × (told ≡ values at))
 unfolding plainTold
 entry-values values (pages.found at) told e = (at, (refl, cc))
 entry-values values pages.nowhere told e = absurd (let z : _≡_ {A = ℕ} 0 1 = cc in omega arith)
@@ -52,7 +54,8 @@ entry-values values pages.nowhere told e = absurd (let z : _≡_ {A = ℕ} 0 1 =
 abbrev Unrefused : Told → Type 0
 Unrefused tells = (link number place : ℕ) → tells ≡ refusedAt link number place → ⊥
 
-linked-unrefused : (link : Link) (o : Outcome) (f : List ℕ → Told) → ((number place : ℕ) → o ≡ refusal number place → ⊥) → ((values : List ℕ) → Unrefused (f values)) → Unrefused (linked link o f)
+linked-unrefused : (link : Link) (o : Outcome) (f : List ℕ → Told) → ((number place : ℕ) → o ≡ refusal number place → ⊥)
+    → ((values : List ℕ) → Unrefused (f values)) → Unrefused (linked link o f)
 unfolding linked
 linked-unrefused link (answered values) f h later = later values
 linked-unrefused link (absent values) f h later = λ l number place e. let z : _≡_ {A = ℕ} 0 1 = cc in omega arith
@@ -102,7 +105,8 @@ module _ {root encoding index : List ℕ} (c : Fit root encoding index) where
       let run = content-agrees encoding (c .encoding-passes) key size .run at (entry .1 .0) in
       let one : h .encoding .«key_size» ≤ runLength encoding h at = omega (arith, mul-le-mul-right (h .encoding .«key_size») (run .some)) in
       rw (entry .1 .1) (
-        ap (take (h .encoding .«key_size»)) (run .part) ∙ part-of-part encoding (runAt h at) (runLength encoding h at) 0 (h .encoding .«key_size») (omega (arith, one)) ∙ rw add-zero,
+        ap (take (h .encoding .«key_size»)) (run .part)
+            ∙ part-of-part encoding (runAt h at) (runLength encoding h at) 0 (h .encoding .«key_size») (omega (arith, one)) ∙ rw add-zero,
         partAt-inside encoding (runAt h at) (h .encoding .«key_size») (omega (arith, run .ends, run .inside, run .count)) ∙ c .encoding-keys,
       )
 
@@ -146,7 +150,8 @@ module _ {root encoding index : List ℕ} (c : Fit root encoding index) where
 
 -- ---- the functions
 
-pub chain-agrees : (root encoding index : List ℕ) (id locale unwanted : ℕ) (c : Calls root encoding index id locale unwanted) → ChainAgrees root encoding index id locale unwanted c
+pub chain-agrees : (root encoding index : List ℕ) (id locale unwanted : ℕ) (c : Calls root encoding index id locale unwanted)
+    → ChainAgrees root encoding index id locale unwanted c
 chain-agrees root encoding index id locale unwanted c =
     let known = passed-index (indexFile.fullCheck index) (c .layout) (layoutOf index) (c .index-checked) (c .index-ensures) (c .index-passed) in
     let fit : Fit root encoding index = record {

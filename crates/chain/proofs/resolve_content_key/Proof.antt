@@ -1,55 +1,59 @@
 -- `chain::resolve_content_key`: by what the lookup of the content key tells.
-use mathlib.Core.Path.{sym, ap, _∙_}
+use mathlib.Core.Path.{sym, ap, _∙_, _≡_}
 use borrow.Author.Needs.{needs}
 use Rattle.encoding_lookup.specs.Lookup.{contentOutcome}
 use Rattle.chain.specs.declared.Link.the-variants.{Encoding}
 use Rattle.chain.specs.Chain.{linked, encodingKey, indexTold, encodingTold, told}
 use Rattle.chain.proofs.Laws.{first-told}
+use Rattle.encoding_lookup.specs.declared.ContentFound.{ContentFound}
 use Rattle.chain.proofs.resolve_content_key.Statement.{statement}
 use Rattle.chain.proofs.resolve_content_key.Tie as tie
 
-find-content-requires : tie.Need-find-content-requires
-find-content-requires c κs = search needs
+-- ---- the content key was looked up
 
-enum-known-r : tie.Need-enum-known-r
-enum-known-r c = search needs
+abbrev Looked : Type 0
+Looked = tie.After-find-content
 
-enum-told : tie.Need-enum-told
-enum-told c = search needs
+abbrev start-at : Looked → tie.Start
+start-at l = l .before .before .before .before
 
-enum-known-e : tie.Need-enum-known-e
-enum-known-e c = search needs
-
-first-key-requires : tie.Need-first-key-requires
-first-key-requires c κs = search needs
-
-resolve-encoding-key-requires : tie.Need-resolve-encoding-key-requires
-resolve-encoding-key-requires c κs = search needs
+by-content : (l : Looked) (v : ContentFound) → l .find-content .result ≡ v
+    → let a = start-at l .args in
+    linked Encoding (contentOutcome v) (λ values. indexTold (a .index .now) (encodingKey (a .encoding .now) (a .key .now)))
+    ≡ encodingTold (a .encoding .now) (a .index .now) (a .key .now)
+unfolding encodingTold
+by-content l v e =
+    let a = start-at l .args in
+    let key = encodingKey (a .encoding .now) (a .key .now) in
+    ap (λ o. linked Encoding o (λ values. indexTold (a .index .now) key)) (sym (ap contentOutcome e) ∙ l .find-content .ensures)
 
 returns : tie.Need-returns
-unfolding encodingTold linked told contentOutcome
-returns c = ap (λ o. linked Encoding o (λ values. indexTold (c .before .before .before .before .before .before .before .args .index .now) (encodingKey (c .before .before .before .before .before .before .before .args .encoding .now) (c .before .before .before .before .before .before .before .args .key .now)))) (sym (ap contentOutcome (c .before .r .given .1)) ∙ c .before .before .before .find-content .ensures)
+unfolding linked told contentOutcome
+returns c = by-content (c .before .before .before) _ (c .before .r .given .1)
 
 returns-2 : tie.Need-returns-2
-unfolding encodingTold linked told contentOutcome
-returns-2 c = ap (λ o. linked Encoding o (λ values. indexTold (c .before .before .before .before .before .before .args .index .now) (encodingKey (c .before .before .before .before .before .before .args .encoding .now) (c .before .before .before .before .before .before .args .key .now)))) (sym (ap contentOutcome (c .enum-told .given .1)) ∙ c .before .before .find-content .ensures)
+unfolding linked told contentOutcome
+returns-2 c = by-content (c .before .before) _ (c .enum-told .given .1)
 
 returns-3 : tie.Need-returns-3
-unfolding encodingTold linked contentOutcome
-returns-3 c = let e = sym (ap contentOutcome (c .before .before .before .e .given .1)) ∙ c .before .before .before .before .before .find-content .ensures in
-    c .resolve-encoding-key .ensures ∙ ap (indexTold _) (c .before .first-key .ensures ∙ first-told _ _ _ _ _ _ e)
-    ∙ ap (λ o. linked Encoding o (λ values. indexTold (c .before .before .before .before .before .before .before .before .before .args .index .now) (encodingKey (c .before .before .before .before .before .before .before .before .before .args .encoding .now) (c .before .before .before .before .before .before .before .before .before .args .key .now)))) e
+unfolding linked contentOutcome
+returns-3 c =
+    let entry = c .before .before .before in
+    let looked = entry .before .before in
+    let content = sym (ap contentOutcome (entry .e .given .1)) ∙ looked .find-content .ensures in
+    c .resolve-encoding-key .ensures ∙ ap (indexTold _) (c .before .first-key .ensures ∙ first-told _ _ _ _ _ _ content)
+    ∙ by-content looked _ (entry .e .given .1)
 
 pub resolve-content-key-spec : {M : Type 1} → statement M
 resolve-content-key-spec =
     tie.close
     (tie.spec
-    find-content-requires
-    enum-known-r
-    enum-told
-    enum-known-e
-    first-key-requires
-    resolve-encoding-key-requires
+    (λ c κs. search needs)
+    (λ c. search needs)
+    (λ c. search needs)
+    (λ c. search needs)
+    (λ c κs. search needs)
+    (λ c κs. search needs)
     returns
     returns-2
     returns-3)

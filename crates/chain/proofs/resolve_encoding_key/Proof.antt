@@ -7,18 +7,6 @@ use Rattle.chain.specs.Chain.{found, linked, indexTold, told}
 use Rattle.chain.proofs.resolve_encoding_key.Statement.{statement}
 use Rattle.chain.proofs.resolve_encoding_key.Tie as tie
 
-lookup-requires : tie.Need-lookup-requires
-lookup-requires c κs = search needs
-
-enum-known-r : tie.Need-enum-known-r
-enum-known-r c = search needs
-
-enum-known-compared : tie.Need-enum-known-compared
-enum-known-compared c = search needs
-
-enum-known-entry : tie.Need-enum-known-entry
-enum-known-entry c = search needs
-
 returns : tie.Need-returns
 unfolding indexTold linked told outcome
 returns c = ap (λ o. linked Index o found) (sym (ap outcome (c .before .r .given .1)) ∙ c .before .before .before .lookup .ensures)
@@ -35,10 +23,10 @@ pub resolve-encoding-key-spec : {M : Type 1} → statement M
 resolve-encoding-key-spec =
     tie.close
     (tie.spec
-    lookup-requires
-    enum-known-r
-    enum-known-compared
-    enum-known-entry
+    (λ c κs. search needs)
+    (λ c. search needs)
+    (λ c. search needs)
+    (λ c. search needs)
     returns
     returns-2
     returns-3)
