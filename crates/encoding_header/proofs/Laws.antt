@@ -62,7 +62,8 @@ passed-header k h m v e g =
     let a : (k ≡ silent) × (headerValues h ≡ headerValues m) = answered-after k (headerValues h) (headerValues m) (sym (ap outcome g) ∙ e) in
     (a .0, values-one h m (a .1))
 
-pub refused-header : (k : Check) (m : Header) (v : Opened) {r : Refusal} → outcome v ≡ after k (answered (headerValues m)) → v ≡ Refused r → k ≡ refused (r .number) (r .place)
+pub refused-header : (k : Check) (m : Header) (v : Opened) {r : Refusal} → outcome v ≡ after k (answered (headerValues m)) → v ≡ Refused r
+    → k ≡ refused (r .number) (r .place)
 unfolding outcome
 refused-header k m v {r} e g = refusal-after k (r .number) (r .place) (headerValues m) (sym (ap outcome g) ∙ e)
 
@@ -100,7 +101,8 @@ whole s e =
     let h : Header = headerOf s in
     let a = first-right (magicCheck s) _ e in
     let b = first-right (headerCheck s) _ a in
-    let fields = both (eqb (byteAt s versionAt) version) _ (not-false _ (silent-test (not (headerRight s h)) encoding-header 0 (first-left (headerCheck s) _ a))) in
+    let right = not-false _ (silent-test (not (headerRight s h)) encoding-header 0 (first-left (headerCheck s) _ a)) in
+    let fields = both (eqb (byteAt s versionAt) version) _ right in
     let content = both (tableRight (h .content)) _ (fields .1) in
     let encoding = both (tableRight (h .encoding)) _ (content .1) in
     let rest = both (eqb (byteAt s flagsAt) flags) _ (encoding .1) in

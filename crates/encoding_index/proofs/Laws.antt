@@ -36,7 +36,8 @@ pub above-by-eight : (s : List ℕ) (h : Header) (kind : Kind) (sought : List �
 unfolding firstKey
 above-by-eight s h kind sought i mine theirs bytes wide p q less =
     let n : ℕ = tableOf h kind .«key_size» in
-    ap isAbove (above-of-bigAt 8 (partAt s (rowAt h kind i) n) sought (part-bytes s (rowAt h kind i) n bytes) (omega (arith, part-number s (rowAt h kind i) n 8 wide)))
+    ap isAbove
+    (above-of-bigAt 8 (partAt s (rowAt h kind i) n) sought (part-bytes s (rowAt h kind i) n bytes) (omega (arith, part-number s (rowAt h kind i) n 8 wide)))
 
 -- ---- passing over pages
 
@@ -49,7 +50,8 @@ skipped-one s h kind sought from n k l e =
     record { back = omega (arith, k .back); same = k .same ∙ up-to-above (firstAbove s h kind sought) n l e }
 
 -- what the comparison of a stored first key tells
-pub told : {key first : List ℕ} (sought : List ℕ) {rises value : Bool} → key ≡ first → rises ≡ isBelow (compared sought key) → rises ≡ value → isAbove (compared first sought) ≡ value
+pub told : {key first : List ℕ} (sought : List ℕ) {rises value : Bool} → key ≡ first → rises ≡ isBelow (compared sought key) → rises ≡ value
+    → isAbove (compared first sought) ≡ value
 told {first = first} sought e a v = above-is-below first sought ∙ rw (← e, ← a) v
 
 pub none-left : {n : ℕ} → n ≤ 0 → n ≡ 0

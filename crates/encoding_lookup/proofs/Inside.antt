@@ -88,7 +88,9 @@ module _ (s key : List ℕ) where
       after-inside (length s) (lookupCheck s Encoding key) _
       (λ k. seek-told-inside (length s) (encodingTold s h) (seek s h Encoding key)
       (λ x v. after-inside (length s) _ _
-      (λ quiet. omega (arith, start-inside (specTable s h) (specNumber s h x), partAt-length s headerSize (h .«spec_size»), whole s (opened Encoding k) .inside))))
+      (λ quiet.
+      let table = partAt-length s headerSize (h .«spec_size») in
+      omega (arith, start-inside (specTable s h) (specNumber s h x), table, whole s (opened Encoding k) .inside))))
 
 -- the part that is returned, with its address, by what the lookup tells
 pub part-told : (s part : List ℕ) (v told : Outcome) (from at : ℕ) → v ≡ told → placeTold told ≤ length s → part ≡ partTold s v

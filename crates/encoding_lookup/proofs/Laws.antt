@@ -48,7 +48,8 @@ module _ (s : List ℕ) (kind : Kind) (key : List ℕ) (h : Header) (t : Table) 
   unfolding lookupCheck
   key-right q = skip o (quiet encoding-key-length 0 refl (rw (eq-eqb (length key) (tableOf (headerOf s) kind .«key_size») (q ∙ size-is))))
 
-pub opening-said : (s : List ℕ) (kind : Kind) (key : List ℕ) {number place : ℕ} → opening s ≡ refused number place → lookupCheck s kind key ≡ refused number place
+pub opening-said : (s : List ℕ) (kind : Kind) (key : List ℕ) {number place : ℕ} → opening s ≡ refused number place
+    → lookupCheck s kind key ≡ refused number place
 unfolding lookupCheck first
 opening-said s kind key e = ap (λ k. first k (lengthCheck (headerOf s) kind key)) e
 
@@ -59,7 +60,8 @@ module _ (s : List ℕ) (h : Header) (kind : Kind) (key : List ℕ) (n : ℕ) (p
   unfolding seek seekOn
   seek-none z = sym (ap (seekOn s h kind key) (sym p ∙ z))
 
-  on-page : (m : ℕ) → (m ≡ 0 → ⊥) → seekOn s h kind key m ≡ pageSeek s h kind (m - 1) (searched s h kind key (walkFrom s h kind (pageEnd h kind (m - 1)) (pageAt h kind (m - 1))))
+  on-page : (m : ℕ) → (m ≡ 0 → ⊥)
+      → seekOn s h kind key m ≡ pageSeek s h kind (m - 1) (searched s h kind key (walkFrom s h kind (pageEnd h kind (m - 1)) (pageAt h kind (m - 1))))
   unfolding seekOn
   on-page zero some = absurd (some refl)
   on-page (suc i) some = let one : suc i - 1 ≡ i = omega arith in rw one
@@ -119,7 +121,8 @@ run-told s key size keys at n e = ap (partTold s) e
 -- ---- specs
 
 -- a spec is there where it ends before the table does
-module _ (s : List ℕ) (h : Header) (n : ℕ) (table : List ℕ) (at count : ℕ) (t : table ≡ specTable s h) (p : at ≡ startOf table n) (q : count ≡ lengthAt table at) where
+module _ (s : List ℕ) (h : Header) (n : ℕ) (table : List ℕ) (at count : ℕ) (t : table ≡ specTable s h) (p : at ≡ startOf table n)
+    (q : count ≡ lengthAt table at) where
   end-is : at + count ≡ startOf table n + lengthAt table (startOf table n)
   end-is = omega (arith, p, q, ap (lengthAt table) p)
 
@@ -146,7 +149,8 @@ module _ (s : List ℕ) (h : Header) (n : ℕ) (table : List ℕ) (at count : �
 
 -- an entry's spec by its number
 module _ (s : List ℕ) (h : Header) (at : ℕ) where
-  numbered : (k : Check) (x y number size a n : ℕ) → answered (a ∷ n ∷ []) ≡ after k (answered (x ∷ y ∷ [])) → answered (number ∷ size ∷ a ∷ n ∷ []) ≡ after k (answered (number ∷ size ∷ x ∷ y ∷ []))
+  numbered : (k : Check) (x y number size a n : ℕ) → answered (a ∷ n ∷ []) ≡ after k (answered (x ∷ y ∷ []))
+      → answered (number ∷ size ∷ a ∷ n ∷ []) ≡ after k (answered (number ∷ size ∷ x ∷ y ∷ []))
   unfolding after
   numbered silent x y number size a n e =
       let p : a ≡ x = cc in
@@ -154,7 +158,8 @@ module _ (s : List ℕ) (h : Header) (at : ℕ) where
       ap₂ (λ u v. answered (number ∷ size ∷ u ∷ v ∷ [])) p q
   numbered (refused m i) x y number size a n e = absurd (let z : _≡_ {A = ℕ} 0 1 = cc in omega arith)
 
-  past : (k : Check) (values others : List ℕ) (number place : ℕ) → refusal number place ≡ after k (answered values) → refusal number place ≡ after k (answered others)
+  past : (k : Check) (values others : List ℕ) (number place : ℕ) → refusal number place ≡ after k (answered values)
+      → refusal number place ≡ after k (answered others)
   unfolding after
   past silent values others number place e = absurd (let z : _≡_ {A = ℕ} 0 1 = cc in omega arith)
   past (refused m i) values others number place e = e
@@ -169,4 +174,5 @@ module _ (s : List ℕ) (h : Header) (at : ℕ) where
     unfolding specTold encodingTold
     encoding-found size a n z e =
         ap₂ (λ x y. answered (x ∷ y ∷ a ∷ n ∷ [])) m z
-        ∙ numbered (specCheck s h (specNumber s h at)) (specAt s h (specNumber s h at)) (specLength s h (specNumber s h at)) (specNumber s h at) _ a n (rw m at e)
+        ∙ numbered (specCheck s h (specNumber s h at)) (specAt s h (specNumber s h at)) (specLength s h (specNumber s h at)) (specNumber s h at)
+        _ a n (rw m at e)

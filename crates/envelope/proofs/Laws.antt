@@ -34,8 +34,9 @@ module _ (s : List ℕ) (h : Header) (e : sizesCheck s h ≡ silent) where
   pub not-empty : (i : ℕ) → i < chunkCount h → 1 ≤ encodedSize s h i
   unfolding sizesCheck emptyCheck
   not-empty i l =
-      let some = eqb-false _ 0 (silent-test _ chunk-sizes 0 (simp zero-add at (from-each (emptyCheck s h) 0 (chunkCount h) (first-left (firstFrom (emptyCheck s h) 0 (chunkCount h)) (sumCheck s h) e) i l))) in
-      positive (encodedSize s h i) some
+      let each = first-left (firstFrom (emptyCheck s h) 0 (chunkCount h)) (sumCheck s h) e in
+      let one = simp zero-add at (from-each (emptyCheck s h) 0 (chunkCount h) each i l) in
+      positive (encodedSize s h i) (eqb-false _ 0 (silent-test _ chunk-sizes 0 one))
     where
       positive : (n : ℕ) → (n ≡ 0 → ⊥) → 1 ≤ n
       positive zero ne = absurd (ne refl)
@@ -56,7 +57,9 @@ module _ (s : List ℕ) (h : Header) (e : sizesCheck s h ≡ silent) where
   contents-length i (suc n) l =
       let next : suc i + n ≡ i + suc n = omega arith in
       let after : chunkAt s h (suc i) ≡ chunkAt s h i + encodedSize s h i = ap (chunkAt s h) (sym (add-one i)) ∙ chunk-after s h i in
-      omega (arith, length-append (contentOf s h i) (partsFrom (contentOf s h) (suc i) n), content-length i (omega arith), not-empty i (omega arith), contents-length (suc i) n (omega arith), after, ap (chunkAt s h) next)
+      let joined = length-append (contentOf s h i) (partsFrom (contentOf s h) (suc i) n) in
+      let others = contents-length (suc i) n (omega arith) in
+      omega (arith, joined, content-length i (omega arith), not-empty i (omega arith), others, after, ap (chunkAt s h) next)
 
   pub content-whole : length (contentBy s h) + chunkCount h + headerLength h ≡ length s
   unfolding contentBy chunkAt
@@ -64,7 +67,8 @@ module _ (s : List ℕ) (h : Header) (e : sizesCheck s h ≡ silent) where
 
 -- ---- the checks of a chunk of a table
 module _ (s : List ℕ) (h : Header) (i : ℕ) (table : tabled h ≡ true) where
-  pub hash-judged : (a b : List ℕ) (r : Bool) → a ≡ md5 (chunkOf s h i) → b ≡ chunkHash s i → r ≡ sameBytes a b → hashCheck s h i ≡ refusedIf (not r) chunk-hash i
+  pub hash-judged : (a b : List ℕ) (r : Bool) → a ≡ md5 (chunkOf s h i) → b ≡ chunkHash s i → r ≡ sameBytes a b
+      → hashCheck s h i ≡ refusedIf (not r) chunk-hash i
   unfolding hashCheck
   hash-judged a b r p q e = rw (table, ← p, ← q, ← e)
 
@@ -147,7 +151,9 @@ limit-judged s h few = by (tabled h)
   where
     by : (b : Bool) → refusedIf (ltb (2 ^ 48) (length (cond b (take (cond b (tableAt + rowSize * h .rows) shortSize) s) s))) hash-limit 0
         ≡ cond b silent (refusedIf (ltb (2 ^ 48) (length s)) hash-limit 0)
-    by true = quiet hash-limit 0 refl (le-ltb (2 ^ 48) (length (take (tableAt + rowSize * h .rows) s)) (omega (arith, length-take (tableAt + rowSize * h .rows) s)))
+    by true =
+        let size = tableAt + rowSize * h .rows in
+        quiet hash-limit 0 refl (le-ltb (2 ^ 48) (length (take size s)) (omega (arith, length-take size s)))
     by false = refl
 
 -- a hash that is not refused
@@ -163,12 +169,14 @@ pub key-refused : (s : List ℕ) {number place : ℕ} → opening s ≡ refused 
 unfolding carriedKey keyOfCheck filled
 key-refused s e = rw (first-said (limitCheck s (headerOf s)) e)
 
-key-told : (k : Check) (n : ℕ) (m bytes : List ℕ) → limited (length m) ≡ k → bytes ≡ digestOr0 m → length (md5 m) ≡ 16 → bytes ≡ filled k (md5 m) (replicate 16 0)
+key-told : (k : Check) (n : ℕ) (m bytes : List ℕ) → limited (length m) ≡ k → bytes ≡ digestOr0 m → length (md5 m) ≡ 16
+    → bytes ≡ filled k (md5 m) (replicate 16 0)
 unfolding filled
 key-told silent n m bytes e d l = hashed m bytes e d ∙ sym (append-nil (md5 m)) ∙ ap (λ r. md5 m ++ drop r (replicate 16 0)) (sym l)
 key-told (refused number place) n m bytes e d l = d ∙ ap (λ b. cond b (replicate 16 0) (md5 m)) (refused-test _ hash-limit 0 number place e)
 
-pub key-carried : (s m bytes : List ℕ) → opening s ≡ silent → m ≡ keyed s (headerOf s) → limited (length m) ≡ limitCheck s (headerOf s) → bytes ≡ digestOr0 m → bytes ≡ carriedKey s
+pub key-carried : (s m bytes : List ℕ) → opening s ≡ silent → m ≡ keyed s (headerOf s) → limited (length m) ≡ limitCheck s (headerOf s)
+    → bytes ≡ digestOr0 m → bytes ≡ carriedKey s
 unfolding carriedKey keyOfCheck
 key-carried s m bytes e k lim d =
     key-told (limitCheck s (headerOf s)) 0 m bytes lim d (digest-length m)
@@ -185,7 +193,9 @@ key-whole s e =
 
 pub opened-sizes : (s : List ℕ) (h : Header) → opening s ≡ silent → h ≡ headerOf s → sizesCheck s h ≡ silent
 unfolding opening
-opened-sizes s h e g = ap (sizesCheck s) g ∙ first-right (headerCheck s) (sizesCheck s (headerOf s)) (first-right (magicCheck s) (first (headerCheck s) (sizesCheck s (headerOf s))) e)
+opened-sizes s h e g =
+    let after-magic = first-right (magicCheck s) (first (headerCheck s) (sizesCheck s (headerOf s))) e in
+    ap (sizesCheck s) g ∙ first-right (headerCheck s) (sizesCheck s (headerOf s)) after-magic
 
 pub judged-sizes : (s key : List ℕ) (h : Header) → contentCheck s key ≡ silent → h ≡ headerOf s → sizesCheck s h ≡ silent
 unfolding contentCheck

@@ -19,4 +19,10 @@ returns c = rw (c .part .ensures .0, c .before .row-at .ensures, c .before .befo
 pub page-hash-spec : {M : Type 1} → statement M
 page-hash-spec =
     tie.close
-    (tie.spec (λ c κs. search needs) (λ c. search needs) (λ c κs. search needs) add-part (λ c κs. search needs) returns)
+    (tie.spec
+    (λ c κs. search needs)
+    (λ c. search needs)
+    (λ c κs. search needs)
+    add-part
+    (λ c κs. search needs)
+    returns)

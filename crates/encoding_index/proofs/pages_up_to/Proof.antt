@@ -14,39 +14,31 @@ Inv-loop file h kind key n₀ n = pagesUpTo file h kind key ≡ upTo (firstAbove
 abbrev μ-loop : tie.MeasureT-loop
 μ-loop file h kind key n₀ n = n
 
-table-requires : tie.Need-table-requires Inv-loop μ-loop
-table-requires c κs = search needs
-
 loop-holds : tie.Need-loop-holds Inv-loop μ-loop
 unfolding pagesUpTo
 loop-holds c = rw (c .table .ensures)
 
-skip-requires : tie.Need-skip-requires Inv-loop μ-loop
-skip-requires c κs = search needs
-
 returns : tie.Need-returns Inv-loop μ-loop
 returns c = sym (c .before .before .before .loop .inv ∙ c .before .skip .ensures .same ∙ ap (upTo _) (c .if1 .taken) ∙ up-to-none _)
 
-sub-first-key : tie.Need-sub-first-key Inv-loop μ-loop
-sub-first-key c = search needs
-
-first-key-requires : tie.Need-first-key-requires Inv-loop μ-loop
-first-key-requires c κs = search needs
-
-rises-requires : tie.Need-rises-requires Inv-loop μ-loop
-rises-requires c κs = search needs
-
 returns-2 : tie.Need-returns-2 Inv-loop μ-loop
-returns-2 c = sym (c .before .before .before .before .before .before .loop .inv ∙ c .before .before .before .before .skip .ensures .same ∙ up-to-here _ _ (omega (arith, c .before .before .before .if1 .left)) (told _ (c .before .before .first-key .ensures) (c .before .rises .ensures) (not-true _ (c .if2 .taken))))
-
-sub-n : tie.Need-sub-n Inv-loop μ-loop
-sub-n c = search needs
+returns-2 c =
+    let compared = c .before in
+    let left = compared .before .before in
+    let skipped = left .before in
+    let here = told _ (compared .before .first-key .ensures) (compared .rises .ensures) (not-true _ (c .if2 .taken)) in
+    sym (skipped .before .before .loop .inv ∙ skipped .skip .ensures .same ∙ up-to-here _ _ (omega (arith, left .if1 .left)) here)
 
 loop-less : tie.Need-loop-less Inv-loop μ-loop
 loop-less c = omega (arith, c .before .before .before .if1 .left, c .before .before .before .before .skip .ensures .back)
 
 loop-again : tie.Need-loop-again Inv-loop μ-loop
-loop-again c = c .before .before .before .before .before .before .loop .inv ∙ c .before .before .before .before .skip .ensures .same ∙ up-to-above _ _ (omega (arith, c .before .before .before .if1 .left)) (told _ (c .before .before .first-key .ensures) (c .before .rises .ensures) (not-false _ (c .if2 .left)))
+loop-again c =
+    let compared = c .before in
+    let left = compared .before .before in
+    let skipped = left .before in
+    let above = told _ (compared .before .first-key .ensures) (compared .rises .ensures) (not-false _ (c .if2 .left)) in
+    skipped .before .before .loop .inv ∙ skipped .skip .ensures .same ∙ up-to-above _ _ (omega (arith, left .if1 .left)) above
 
 returns-3 : tie.Need-returns-3 Inv-loop μ-loop
 returns-3 c = sym (c .before .loop .inv ∙ ap (upTo _) (none-left (c .loop-test .left)) ∙ up-to-none _)
@@ -57,15 +49,15 @@ pages-up-to-spec =
     (tie.spec
     Inv-loop
     μ-loop
-    table-requires
+    (λ c κs. search needs)
     loop-holds
-    skip-requires
+    (λ c κs. search needs)
     returns
-    sub-first-key
-    first-key-requires
-    rises-requires
+    (λ c. search needs)
+    (λ c κs. search needs)
+    (λ c κs. search needs)
     returns-2
-    sub-n
+    (λ c. search needs)
     loop-less
     loop-again
     returns-3)

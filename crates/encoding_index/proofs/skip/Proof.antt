@@ -14,38 +14,26 @@ Inv-loop file h kind key from sought n₀ n = Skipped file h kind key from n
 abbrev μ-loop : tie.MeasureT-loop
 μ-loop file h kind key from sought n₀ n = n
 
-table-requires : tie.Need-table-requires Inv-loop μ-loop
-table-requires c κs = search needs
-
 returns : tie.Need-returns Inv-loop μ-loop
 returns c = skipped-none _ _ _ _ _
-
-big-requires : tie.Need-big-requires Inv-loop μ-loop
-big-requires c κs = search needs
 
 loop-holds : tie.Need-loop-holds Inv-loop μ-loop
 loop-holds c = skipped-none _ _ _ _ _
 
-sub-row-at : tie.Need-sub-row-at Inv-loop μ-loop
-sub-row-at c = search needs
-
-row-at-requires : tie.Need-row-at-requires Inv-loop μ-loop
-row-at-requires c κs = search needs
-
-big-requires-2 : tie.Need-big-requires-2 Inv-loop μ-loop
-big-requires-2 c κs = search needs
-
 returns-2 : tie.Need-returns-2 Inv-loop μ-loop
 returns-2 c = c .before .before .before .before .loop .inv
 
-sub-n : tie.Need-sub-n Inv-loop μ-loop
-sub-n c = search needs
-
-loop-less : tie.Need-loop-less Inv-loop μ-loop
-loop-less c = search needs
-
 loop-again : tie.Need-loop-again Inv-loop μ-loop
-loop-again c = skipped-one _ _ _ _ _ _ (c .before .before .before .before .loop .inv) (c .before .before .before .loop-test .taken) (above-by-eight _ _ _ _ _ _ _ (λ k. c .before .before .before .before .before .before .before .before .before .before .shared-slice-known .given k .fits) (omega (arith, c .before .before .before .before .before .before .if1 .left, ap (λ (t : Table). t .«key_size») (c .before .before .before .before .before .before .before .before .table .ensures))) (c .before .before .before .before .before .big .ensures) (c .before .big2 .ensures ∙ rw (c .before .before .row-at .ensures)) (c .if2 .left))
+loop-again c =
+    let row = c .before .before in
+    let turn = row .before in
+    let read = turn .before .before in
+    let wide-enough = read .before in
+    let known = wide-enough .before .before .before .before in
+    let wide = ap (λ (t : Table). t .«key_size») (wide-enough .before .before .table .ensures) in
+    skipped-one _ _ _ _ _ _ (turn .before .loop .inv) (turn .loop-test .taken)
+    (above-by-eight _ _ _ _ _ _ _ (λ k. known .shared-slice-known .given k .fits) (omega (arith, wide-enough .if1 .left, wide))
+    (read .big .ensures) (c .before .big2 .ensures ∙ rw (row .row-at .ensures)) (c .if2 .left))
 
 returns-3 : tie.Need-returns-3 Inv-loop μ-loop
 returns-3 c = c .before .loop .inv
@@ -56,15 +44,15 @@ skip-spec =
     (tie.spec
     Inv-loop
     μ-loop
-    table-requires
+    (λ c κs. search needs)
     returns
-    big-requires
+    (λ c κs. search needs)
     loop-holds
-    sub-row-at
-    row-at-requires
-    big-requires-2
+    (λ c. search needs)
+    (λ c κs. search needs)
+    (λ c κs. search needs)
     returns-2
-    sub-n
-    loop-less
+    (λ c. search needs)
+    (λ c. search needs)
     loop-again
     returns-3)

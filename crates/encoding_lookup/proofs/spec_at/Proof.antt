@@ -25,4 +25,11 @@ returns-2 c =
 pub spec-at-spec : {M : Type 1} → statement M
 spec-at-spec =
     tie.close
-    (tie.spec (λ c κs. search needs) (λ c κs. search needs) (λ c κs. search needs) add-if1 returns (λ c. search needs) returns-2)
+    (tie.spec
+    (λ c κs. search needs)
+    (λ c κs. search needs)
+    (λ c κs. search needs)
+    add-if1
+    returns
+    (λ c. search needs)
+    returns-2)

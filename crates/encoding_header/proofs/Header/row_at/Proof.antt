@@ -28,4 +28,10 @@ returns c = rw (c .row-size .ensures, c .before .table .ensures, c .before .befo
 pub row-at-spec : {M : Type 1} → statement M
 row-at-spec =
     tie.close
-    (tie.spec (λ c κs. search needs) (λ c κs. search needs) (λ c κs. search needs) mul-result add-result returns)
+    (tie.spec
+    (λ c κs. search needs)
+    (λ c κs. search needs)
+    (λ c κs. search needs)
+    mul-result
+    add-result
+    returns)

@@ -17,4 +17,10 @@ returns c = omega (arith, content-whole _ _ (c .before .before .before .pre), c 
 pub length-of-spec : {M : Type 1} → statement M
 length-of-spec =
     tie.close
-    (tie.spec (λ c κs. search needs) sub-result (λ c κs. search needs) (λ c. search needs) sub-result-2 returns)
+    (tie.spec
+    (λ c κs. search needs)
+    sub-result
+    (λ c κs. search needs)
+    (λ c. search needs)
+    sub-result-2
+    returns)
