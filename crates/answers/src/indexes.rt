@@ -4,6 +4,7 @@ use crate::words::layout_words;
 use crate::words::page_words;
 use crate::words::slot_words;
 use crossing::refused;
+use index_layout::FOOTER_SIZE;
 use index_lookup::Answer;
 use index_lookup::Bounded;
 use index_open::Checked;
@@ -13,6 +14,7 @@ ghost use Rattle.index_page.specs.Page as pages;
 ghost use Rattle.index_lookup.specs.Lookup as lookups;
 ghost use Rattle.index_open.specs.Open as layouts;
 ghost use Rattle.crossing.specs.Crossing.{Crosses};
+ghost use Rattle.answers.specs.Lent.{footerTold};
 
 // Lays out what a check that tells a layout answers.
 pub fn tell_layout(told: Checked, answer: &mut [u64; 8]) -> u32
@@ -22,6 +24,21 @@ pub fn tell_layout(told: Checked, answer: &mut [u64; 8]) -> u32
         Checked::Refused(r) => refused(r, answer),
         Checked::Passed(l) => {
             *answer = layout_words(l);
+            0
+        }
+    }
+}
+
+// Lays out what a footer tells: the layout, the length of the whole file and that of the footer.
+pub fn tell_footer(told: Checked, answer: &mut [u64; 8]) -> u32
+    ensures { λ r. ⌜ Crosses (footerTold told) r (now (answer .exit)) ⌝ }
+{
+    match told {
+        Checked::Refused(r) => refused(r, answer),
+        Checked::Passed(l) => {
+            *answer = layout_words(l);
+            answer[5] = l.length() as u64;
+            answer[6] = FOOTER_SIZE as u64;
             0
         }
     }

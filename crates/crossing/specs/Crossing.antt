@@ -4,7 +4,7 @@ use mathlib.Core.Bool.{Bool, cond}
 use mathlib.Core.List.{List, [], _∷_, _++_}
 use Prim.Native.Nat.{ℕ}
 use lib.ListN.{take, replicate}
-use Rattle.refusal.specs.Check.{Check}
+use Rattle.refusal.specs.Check.{Check, silent, refused}
 use Rattle.refusal.specs.Outcome.{Outcome, answered, absent, refusal, after}
 
 -- 0 answered, 1 absent, 2 refused (rule S2).
@@ -35,3 +35,8 @@ verdictOutcome check = after check (answered [])
 -- A test that has no values to give: answered where it holds, else absent.
 abbrev pub testOutcome : Bool → Outcome
 testOutcome test = cond test (answered []) (absent [])
+
+-- What is lent after a check: the new value where it passes; a refusal leaves it (rule S4).
+unfoldable pub lentAfter : {A : Type 0} → Check → (new lent : A) → A
+lentAfter silent new lent = new
+lentAfter (refused number place) new lent = lent

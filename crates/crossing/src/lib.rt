@@ -6,7 +6,7 @@ ghost use mathlib.Core.Path.{_≡_};
 ghost use Prim.Native.Nat.{min};
 ghost use Rattle.refusal.specs.Check.{checkOf};
 ghost use Rattle.refusal.specs.Outcome.{refusal, writtenOutcome};
-ghost use Rattle.crossing.specs.Crossing.{Crosses, CrossesBeside, verdictOutcome};
+ghost use Rattle.crossing.specs.Crossing.{Crosses, CrossesBeside, verdictOutcome, testOutcome, lentAfter};
 
 // A number that a byte does not hold becomes 255, which no setting may be.
 pub fn narrow(x: u32) -> u8
@@ -56,4 +56,32 @@ pub fn tell_bytes(written: Written, answer: &mut [u64; 8]) -> u32
             0
         }
     }
+}
+
+// Lays out the answer of a check, and puts the sixteen bytes that it goes with; a refusal leaves those lent.
+pub fn tell_sixteen(
+    verdict: Verdict,
+    bytes: [u8; 16],
+    lent: &mut [u8; 16],
+    answer: &mut [u64; 8],
+) -> u32
+    ensures { λ r. ⌜ Crosses (verdictOutcome (checkOf verdict)) r (now (answer .exit)) ⌝ }
+    ensures { λ _. ⌜ now (lent .exit) ≡ lentAfter (checkOf verdict) bytes (now (lent .entry)) ⌝ }
+{
+    match verdict {
+        Verdict::Refused(r) => refused(r, answer),
+        Verdict::Passed => {
+            *lent = bytes;
+            *answer = [0u64; 8];
+            0
+        }
+    }
+}
+
+// Lays out the answer of a test that has no values to tell.
+pub fn tell_test(holds: bool, answer: &mut [u64; 8]) -> u32
+    ensures { λ r. ⌜ Crosses (testOutcome holds) r (now (answer .exit)) ⌝ }
+{
+    *answer = [0u64; 8];
+    if holds { 0 } else { 1 }
 }

@@ -1,4 +1,3 @@
-pub mod Envelopes
 pub mod Indexes
 pub mod Keys
 pub mod Md5State

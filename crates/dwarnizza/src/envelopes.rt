@@ -1,13 +1,11 @@
 // BLTE envelopes.
 use crossing::tell_bytes;
-use crossing::tell_verdict;
-use refusal::Verdict;
+use crossing::tell_sixteen;
 ghost use mathlib.Core.Path.{_≡_};
 ghost use lib.ListN.{length};
 ghost use Rattle.refusal.specs.Output.{filled};
 ghost use Rattle.envelope.specs.Envelope as envelope;
-ghost use Rattle.dwarnizza.specs.Envelopes.{keyAfter};
-ghost use Rattle.crossing.specs.Crossing.{Crosses, verdictOutcome};
+ghost use Rattle.crossing.specs.Crossing.{Crosses, verdictOutcome, lentAfter};
 
 // The content of an envelope: the bytes written.
 #[no_mangle]
@@ -39,14 +37,10 @@ pub extern "C" fn dwarnizza_envelope_key(
     answer: &mut [u64; 8],
 ) -> u32
     ensures { λ r. ⌜ Crosses (verdictOutcome (envelope.keyOfCheck (now (file .entry)))) r (now (answer .exit)) ⌝ }
-    ensures { λ _. ⌜ now (key .exit) ≡ keyAfter (envelope.keyOfCheck (now (file .entry))) (envelope.envelopeKey (now (file .entry))) (now (key .entry)) ⌝ }
+    ensures { λ _. ⌜ now (key .exit) ≡ lentAfter (envelope.keyOfCheck (now (file .entry))) (envelope.envelopeKey (now (file .entry))) (now (key .entry)) ⌝ }
 {
     let told = envelope::envelope_key(file);
     let verdict = told.verdict;
     let bytes = told.bytes;
-    if let Verdict::Passed = verdict {
-        *key = bytes;
-        return tell_verdict(verdict, answer);
-    }
-    tell_verdict(verdict, answer)
+    tell_sixteen(verdict, bytes, key, answer)
 }

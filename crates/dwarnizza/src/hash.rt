@@ -1,8 +1,8 @@
 // MD5.
-use crossing::tell_verdict;
+use answers::hashes::tell_state;
+use crossing::tell_sixteen;
 use md5::Md5;
 use md5_block::Words;
-use refusal::Verdict;
 ghost use mathlib.Core.Path.{_≡_};
 ghost use mathlib.Core.Bool.{cond};
 ghost use mathlib.Core.List.{[]};
@@ -11,7 +11,8 @@ ghost use lib.ListN.{length, replicate};
 ghost use Rattle.refusal.specs.Outcome.{answered};
 ghost use Rattle.md5.specs.Message as md5;
 ghost use Rattle.crossing.specs.Crossing.{Crosses, verdictOutcome};
-ghost use Rattle.dwarnizza.specs.Md5State.{stateOf, wordsTo, wordsAfter};
+ghost use Rattle.answers.specs.Lent.{wordsTo};
+ghost use Rattle.dwarnizza.specs.Md5State.{stateOf, wordsAfter};
 
 fn state(words: &[u32; 4], pending: &[u8; 64], count: u64) -> Md5
     ensures { λ r. ⌜ r ≡ stateOf (now (words .entry)) (now (pending .entry)) count ⌝ }
@@ -38,11 +39,7 @@ pub extern "C" fn dwarnizza_md5(message: &[u8], digest: &mut [u8; 16], answer: &
     let hashed = md5::digest(message);
     let verdict = hashed.verdict;
     let bytes = hashed.bytes;
-    if let Verdict::Passed = verdict {
-        *digest = bytes;
-        return tell_verdict(verdict, answer);
-    }
-    tell_verdict(verdict, answer)
+    tell_sixteen(verdict, bytes, digest, answer)
 }
 
 // The state before the first part.
@@ -82,17 +79,7 @@ pub extern "C" fn dwarnizza_md5_update(
 {
     let n = *count;
     let updated = state(words, pending, n).update(part);
-    let verdict = updated.verdict;
-    let after = updated.state;
-    if let Verdict::Passed = verdict {
-        let w = after.words;
-        let bytes = after.pending;
-        *words = [w.a, w.b, w.c, w.d];
-        *pending = bytes;
-        *count = after.count;
-        return tell_verdict(verdict, answer);
-    }
-    tell_verdict(verdict, answer)
+    tell_state(updated, words, pending, count, answer)
 }
 
 // The digest that a state ends in.

@@ -2,14 +2,12 @@
 use crate::narrow::narrow_settings;
 use answers::indexes::tell_bound;
 use answers::indexes::tell_entry;
+use answers::indexes::tell_footer;
 use answers::indexes::tell_layout;
 use answers::indexes::tell_lookup;
 use answers::indexes::tell_page;
-use answers::words::layout_words;
-use crossing::refused;
 use crossing::tell_bytes;
-use index_layout::FOOTER_SIZE;
-use index_open::Checked;
+use crossing::tell_test;
 ghost use mathlib.Core.Path.{_≡_};
 ghost use lib.ListN.{length};
 ghost use Rattle.refusal.specs.Output.{filled};
@@ -62,15 +60,7 @@ pub extern "C" fn dwarnizza_index_entry(
 pub extern "C" fn dwarnizza_index_footer(index: &[u8], answer: &mut [u64; 8]) -> u32
     ensures { λ r. ⌜ Crosses (footerOutcome (now (index .entry))) r (now (answer .exit)) ⌝ }
 {
-    match index_open::read_footer(index) {
-        Checked::Refused(r) => refused(r, answer),
-        Checked::Passed(l) => {
-            *answer = layout_words(l);
-            answer[5] = l.length() as u64;
-            answer[6] = FOOTER_SIZE as u64;
-            0
-        }
-    }
+    tell_footer(index_open::read_footer(index), answer)
 }
 
 // Whether the footer is that of an index of loose files or of patches.
@@ -78,8 +68,7 @@ pub extern "C" fn dwarnizza_index_footer(index: &[u8], answer: &mut [u64; 8]) ->
 pub extern "C" fn dwarnizza_index_loose(index: &[u8], answer: &mut [u64; 8]) -> u32
     ensures { λ r. ⌜ Crosses (testOutcome (isLoose (now (index .entry)))) r (now (answer .exit)) ⌝ }
 {
-    *answer = [0u64; 8];
-    if index_open::is_loose(index) { 0 } else { 1 }
+    tell_test(index_open::is_loose(index), answer)
 }
 
 // A page: place and length of the page, of its last key and of its hash, its first entry, and how many it has.

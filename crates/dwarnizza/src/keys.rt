@@ -1,9 +1,6 @@
 // Keys.
+use answers::keys::tell_key;
 use crossing::narrow;
-use crossing::refused;
-use parts::copy;
-use parts::part;
-use refusal::Verdict;
 ghost use mathlib.Core.Path.{_≡_};
 ghost use Rattle.refusal.specs.Output.{filled};
 ghost use Rattle.key_text.specs.Text.{textCheck, textBytes};
@@ -22,15 +19,5 @@ pub extern "C" fn dwarnizza_key_text(
     ensures { λ _. ⌜ now (key .exit) ≡ filled (textCheck (now (text .entry)) length) (textBytes (now (text .entry))) (now (key .entry)) ⌝ }
 {
     let k = narrow(length);
-    let read = key_text::from_text(text, k);
-    let verdict = read.verdict;
-    let bytes = read.bytes;
-    match verdict {
-        Verdict::Refused(r) => refused(r, answer),
-        Verdict::Passed => {
-            copy(part(&bytes, 0, k as usize), key, 0);
-            *answer = [k as u64, 0, 0, 0, 0, 0, 0, 0];
-            0
-        }
-    }
+    tell_key(key_text::from_text(text, k), k, key, answer)
 }

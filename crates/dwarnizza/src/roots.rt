@@ -1,8 +1,7 @@
 // Root files.
-use crossing::refused;
+use answers::roots::tell_found;
 use crossing::tell_bytes;
 use crossing::tell_verdict;
-use root::Answer;
 ghost use mathlib.Core.Path.{_≡_};
 ghost use lib.ListN.{length};
 ghost use Rattle.root.specs.Root.{rootCheck};
@@ -31,21 +30,7 @@ pub extern "C" fn dwarnizza_root_find(
     ensures { λ r. ⌜ Crosses (lookupOf (now (file .entry)) id locale unwanted) r (now (answer .exit)) ⌝ }
     ensures { λ _. ⌜ now (key .exit) ≡ keyOr (now (file .entry)) (now (key .entry)) (lookupOf (now (file .entry)) id locale unwanted) ⌝ }
 {
-    let found = root::lookup(file, id, locale, unwanted);
-    let told = found.answer;
-    let bytes = found.key;
-    match told {
-        Answer::Refused(r) => refused(r, answer),
-        Answer::Absent => {
-            *answer = [0u64; 8];
-            1
-        }
-        Answer::Key(at) => {
-            *key = bytes;
-            *answer = [at as u64, 0, 0, 0, 0, 0, 0, 0];
-            0
-        }
-    }
+    tell_found(root::lookup(file, id, locale, unwanted), key, answer)
 }
 
 // The content keys of many file numbers, which rise, four bytes each: the bytes written. A refusal leaves the output's bytes.

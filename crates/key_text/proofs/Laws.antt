@@ -169,13 +169,7 @@ module _ (text : List ℕ) (k : ℕ) where
     textBytes-key : length (textBytes text) ≡ k
     textBytes-key = textBytes-length text ∙ omega (arith, right-text-length text k e)
 
-    carried-key : partAt (carried text k) 0 k ≡ textBytes text
+    pub carried-key : partAt (carried text k) 0 k ≡ textBytes text
     unfolding filled
     carried-key =
         rw (← carried-right e, ← textBytes-key) (take-append-seam (textBytes text) (drop (length (textBytes text)) (replicate 16 0)))
-
-    pub key-laid-over : (to : List ℕ) → length to ≡ 16 → overlay to 0 (partAt (carried text k) 0 k) ≡ filled (textCheck text k) (textBytes text) to
-    unfolding filled
-    key-laid-over to long =
-        let room : 0 + length (textBytes text) ≤ length to = omega (arith, textBytes-key, right-key-length text k e) in
-        rw (e, carried-key) (overlay-inside to 0 (textBytes text) room ∙ rw zero-add)
