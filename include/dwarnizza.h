@@ -197,7 +197,8 @@ uint32_t dwarnizza_md5_finish(const uint32_t words[4], const uint8_t pending[64]
  * It is n entries on P pages of 4,096 bytes, then the last key of each page,
  * the hash of each page, and a footer of 28 bytes. An entry is a key of K
  * bytes, the encoded size in 4 and the location in W. Keys rise through the
- * whole file. Pages and entries count from 0, entries through the whole file.
+ * whole file. Pages, entries and slots count from 0, entries through the whole
+ * file and slots within their page.
  *
  * The full check refuses with the first that holds, in this order:
  *
@@ -231,17 +232,18 @@ uint32_t dwarnizza_index_settings(const uint8_t *index, size_t index_len,
                                   uint64_t answer[8]);
 
 /*
- * The entry with this number, counted from 0 through the whole file, by the
- * opening checks alone. The entries 0 to n - 1, in order, are those of the
- * list.
+ * The entry in a slot of a page, by the opening checks alone. Page by page, and
+ * slot by slot, the entries are those of the list.
  * Answered: answer[0] is where in the index its key stands, [1] K, [2] the
  * encoded size, [3] the archive number, which is 0 where W is not 6, [4] the
  * offset, [5] the page, [6] the slot.
- * Absent: number is n or more; no word of the answer is named.
+ * Absent: page is P or more, or slot is not below the number of the page's
+ * entries, which dwarnizza_index_page tells; no word of the answer is named.
  * Refused: as the opening checks refuse.
  */
 uint32_t dwarnizza_index_entry(const uint8_t *index, size_t index_len,
-                               uint64_t number, uint64_t answer[8]);
+                               uint64_t page, uint64_t slot,
+                               uint64_t answer[8]);
 
 /*
  * What the footer of an index says, by the opening checks but 5: the length is
@@ -371,8 +373,7 @@ uint32_t dwarnizza_index_listing(const uint8_t *input, size_t input_len,
  * It halves the stored last keys to the first page whose last key is not below
  * the sought one, then that page's entries to the first whose key is not below
  * it, and one more comparison tells whether that key is the sought one. Each
- * comparison of a stored key counts one. A page counts from 0, and a slot from
- * 0 within its page.
+ * comparison of a stored key counts one.
  *
  * Of the full check it makes the opening checks alone. On an index that passes
  * the full check it finds exactly the keys that stand in it, with no more

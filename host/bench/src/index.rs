@@ -80,12 +80,24 @@ impl File {
         }
     }
 
-    /// A call that is given a number of this range too.
-    fn call_by_number(&self, export: &'static Export, range: usize) -> Call<'_> {
-        let range = range as u64;
+    /// A call that is given the page and the slot of an entry too.
+    fn call_of_entry(&self) -> Call<'_> {
+        let (entries, full) = (self.entries as u64, SETTINGS.entries_per_page() as u64);
         Call {
-            given: Box::new(move |number| Given::new([&self.index], [mixed(number) % range])),
-            ..self.call(export, vec![self.footer()])
+            given: Box::new(move |number| {
+                let entry = mixed(number) % entries;
+                Given::new([&self.index], [entry / full, entry % full])
+            }),
+            ..self.call(&INDEX_ENTRY, vec![self.footer()])
+        }
+    }
+
+    /// A call that is given a page too.
+    fn call_of_page(&self) -> Call<'_> {
+        let pages = SETTINGS.pages(self.entries) as u64;
+        Call {
+            given: Box::new(move |number| Given::new([&self.index], [mixed(number) % pages])),
+            ..self.call(&INDEX_PAGE, vec![self.footer()])
         }
     }
 
@@ -127,10 +139,8 @@ fn by_footer(table: &mut Table, files: &[File]) {
         result: ABSENT,
         ..file.call(&INDEX_LOOSE, Vec::new())
     }));
-    let entry = |file| File::call_by_number(file, &INDEX_ENTRY, file.entries);
-    table.calls(files.iter().map(entry));
-    let page = |file| File::call_by_number(file, &INDEX_PAGE, SETTINGS.pages(file.entries));
-    table.calls(files.iter().map(page));
+    table.calls(files.iter().map(File::call_of_entry));
+    table.calls(files.iter().map(File::call_of_page));
 }
 
 /// The list of an index, and the index of a list.

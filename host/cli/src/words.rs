@@ -3,7 +3,7 @@
 use std::ffi::OsStr;
 use std::ops::Range;
 
-use dwarnizza::index::{Page, UncheckedIndex};
+use dwarnizza::index::{IndexEntry, Page, Slot, UncheckedIndex};
 use dwarnizza::{Index, Reason, Refusal, Subject};
 
 use crate::status::Failure;
@@ -129,7 +129,7 @@ fn footer_help(refused: Refusal, first: &[u8], last: UncheckedIndex<'_>, length:
 /// Where in the file a refusal of its pages stands.
 fn place_in(index: UncheckedIndex<'_>, refused: Refusal) -> Option<String> {
     if refused.reason.place_words() == "entry" {
-        let entry = index.entry(refused.place).ok()??;
+        let entry = numbered(index, refused.place)?;
         let key = bytes(&(entry.place..entry.place + entry.key.len()));
         return Some(format!("its key stands at {key}"));
     }
@@ -141,6 +141,20 @@ fn place_in(index: UncheckedIndex<'_>, refused: Refusal) -> Option<String> {
         Reason::LastKey => format!("{page}, its stored last key at {}", bytes(&parts.last_key)),
         _ => page,
     })
+}
+
+/// The entry with this number, counted from 0 through all pages.
+fn numbered(index: UncheckedIndex<'_>, number: u64) -> Option<IndexEntry<'_>> {
+    let mut left = number;
+    for page in index.summary().ok()?.page_numbers() {
+        let entries = index.page(page).ok()??.entries as u64;
+        if left < entries {
+            let slot = Slot(u32::try_from(left).ok()?);
+            return index.entry_at(page, slot).ok()?;
+        }
+        left -= entries;
+    }
+    None
 }
 
 /// A range of bytes in words.

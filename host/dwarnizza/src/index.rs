@@ -27,7 +27,7 @@ pub use lookup::{Entry, Lookup, Page, Slot};
 pub use parts::{Footer, PageParts};
 pub use unchecked::UncheckedIndex;
 
-use crate::answer::{Words, size, unrefused};
+use crate::answer::{Words, number, size, unrefused};
 use crate::library;
 use crate::refusal::Refusal;
 
@@ -224,6 +224,21 @@ pub struct Summary {
 }
 
 impl Summary {
+    /// The numbers of its pages, from 0.
+    ///
+    /// ```
+    /// use dwarnizza::Index;
+    /// use dwarnizza::index::Page;
+    ///
+    /// let name = "../../sample/archives/066a04990bc3bbc7c21bab87f0144807.index";
+    /// let file = std::fs::read(name)?;
+    /// assert!(Index::check(&file)?.summary().page_numbers().eq([Page(0)]));
+    /// # Ok::<(), Box<dyn std::error::Error>>(())
+    /// ```
+    pub fn page_numbers(self) -> impl DoubleEndedIterator<Item = Page> {
+        (0..number(self.pages as u64)).map(Page)
+    }
+
     /// The summary that an answer names.
     fn from_words(words: Words) -> Self {
         let [version, offset_width, key_length, entries, pages, ..] = words;

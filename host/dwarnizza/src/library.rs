@@ -109,8 +109,10 @@ pub fn index_bound(index: &[u8]) -> Answered {
     answered(one_input(ffi::dwarnizza_index_bound, index))
 }
 
-pub fn index_entry(index: &[u8], number: u64) -> Searched {
-    searched(numbered(ffi::dwarnizza_index_entry, index, number))
+pub fn index_entry(index: &[u8], page: u64, slot: u64) -> Searched {
+    let (data, length) = (index.as_ptr(), index.len());
+    // SAFETY: pointer and length are those of one slice.
+    searched(|answer| unsafe { ffi::dwarnizza_index_entry(data, length, page, slot, answer) })
 }
 
 pub fn index_page(index: &[u8], page: u64) -> Searched {

@@ -12,7 +12,7 @@ use forge::faults::index::{IndexFile, all_settings, keys, random_list};
 use forge::random::Random;
 use forge::small;
 
-/// Each entry of indexes of every layout, by number, by place and by its key.
+/// Each entry of indexes of every layout, in order, by page and slot, and by its key.
 #[test]
 fn entries_of_indexes() {
     let mut random = Random::of_test();
@@ -29,16 +29,23 @@ fn entries_of_indexes() {
             assert_eq!(Ok(index.bound()), unchecked.bound());
             assert_eq!(Ok(index.name()), unchecked.name());
             assert!(index.list() == list);
-            assert_eq!(index.entries().len(), count);
-            for (number, entry) in (0..).zip(index.entries()) {
-                assert_eq!(unchecked.entry(number), Ok(Some(entry)));
+            let mut entries = index.entries();
+            for (number, bytes) in (0..count).zip(list.chunks(settings.entry_len())) {
+                assert_eq!(entries.len(), count - number);
+                let entry = entries.next().expect("the list has it");
+                let place = (number / full, number % full);
+                assert_eq!((entry.page.0 as usize, entry.slot.0 as usize), place);
+                let unchecked = unchecked.entry_at(entry.page, entry.slot);
+                assert_eq!(unchecked, Ok(Some(entry)));
                 assert_eq!(index.entry_at(entry.page, entry.slot), Some(entry));
                 assert!(ptr::eq(entry.key, &file[entry.place..][..entry.key.len()]));
+                assert_eq!(file[entry.place..][..bytes.len()], *bytes);
                 let found = index.find(entry.key).unwrap().found();
                 let found = found.expect("its key is there");
                 assert_eq!((found.page, found.slot), (entry.page, entry.slot));
             }
-            assert_eq!(index.entry(count as u64), None);
+            assert_eq!((entries.len(), entries.next()), (0, None));
+            assert_eq!(entries.next(), None);
         }
     }
 }
@@ -58,8 +65,13 @@ fn pages_of_indexes() {
             let page = Page(number as u32);
             let parts = index.page(page).expect("it has this page");
             assert_eq!(parts.page, number * 4096..(number + 1) * 4096);
-            let last = index.entry(parts.first_entry + parts.entries as u64 - 1);
-            assert_eq!(file[parts.last_key.clone()], *last.unwrap().key);
+            let on_page = index.entries_on(page);
+            assert_eq!(on_page.len(), parts.entries);
+            assert!(parts.slots().eq(on_page.clone().map(|entry| entry.slot)));
+            let skipped = index.entries().skip(entries as usize);
+            assert!(on_page.clone().eq(skipped.take(parts.entries)));
+            let last = on_page.last().expect("each page has an entry");
+            assert_eq!(file[parts.last_key.clone()], *last.key);
             let hash = second::md5::digest(&file[parts.page]).unwrap();
             assert_eq!(file[parts.hash], hash[..8]);
             assert_eq!(parts.first_entry, entries);
@@ -69,7 +81,9 @@ fn pages_of_indexes() {
         }
         assert_eq!(entries, count as u64);
         let past = Page(settings.pages(count) as u32);
+        assert!(index.summary().page_numbers().eq((0..past.0).map(Page)));
         assert_eq!(index.page(past), None);
+        assert_eq!(index.entries_on(past).next(), None);
         assert_eq!(index.entry_at(past, Slot(0)), None);
     }
 }

@@ -1,4 +1,5 @@
-//! Single entries, of an index by its number and of a list: the library against the second program.
+//! Single entries, of an index by page and slot and of a list: the library against the second
+//! program.
 
 mod compare;
 
@@ -10,8 +11,9 @@ use forge::random::Random;
 use second::index::Settings;
 
 /// An entry by the second program, as the library has it.
-fn second_entry(file: &[u8], number: u64) -> Result<Option<IndexEntry<'_>>, Refusal> {
-    let entry = second::index::entry(file, number).map_err(in_library_terms)?;
+fn second_entry(file: &[u8], page: Page, slot: Slot) -> Result<Option<IndexEntry<'_>>, Refusal> {
+    let entry = second::index::entry(file, page.0.into(), slot.0.into());
+    let entry = entry.map_err(in_library_terms)?;
     Ok(entry.map(|entry| IndexEntry {
         key: entry.key,
         size: entry.size,
@@ -25,9 +27,9 @@ fn second_entry(file: &[u8], number: u64) -> Result<Option<IndexEntry<'_>>, Refu
 
 /// The entry by both programs.
 #[track_caller]
-fn compare_entry(file: &[u8], number: u64) -> Result<Option<IndexEntry<'_>>, Refusal> {
-    let entry = Index::unchecked(file).entry(number);
-    assert_eq!(entry, second_entry(file, number));
+fn compare_entry(file: &[u8], page: Page, slot: Slot) -> Result<Option<IndexEntry<'_>>, Refusal> {
+    let entry = Index::unchecked(file).entry_at(page, slot);
+    assert_eq!(entry, second_entry(file, page, slot));
     entry
 }
 
@@ -64,8 +66,14 @@ fn compare_put(settings: Settings, parts: &Parts, room: usize) -> Result<Vec<u8>
     )
 }
 
-/// The entries of an index, one by one, are those of its list, and each can be made again of what
-/// is told of it.
+/// The page and slot of the entry with this number, where all pages but the last are full.
+fn place(settings: Settings, number: usize) -> (Page, Slot) {
+    let full = settings.entries_per_page();
+    (Page((number / full) as u32), Slot((number % full) as u32))
+}
+
+/// The entries of an index, page by page and slot by slot, are those of its list, and each can be
+/// made again of what is told of it.
 #[test]
 fn entries_are_those_of_the_list() {
     let mut random = Random::of_test();
@@ -77,7 +85,8 @@ fn entries_are_those_of_the_list() {
             let list = random_list(&mut random, settings, count);
             let file = IndexFile::new(settings, &list).bytes;
             for (number, bytes) in (0..).zip(list.chunks(settings.entry_len())) {
-                let entry = compare_entry(&file, number).expect("the file is good");
+                let (page, slot) = place(settings, number);
+                let entry = compare_entry(&file, page, slot).expect("the file is good");
                 let entry = entry.expect("it has the entry");
                 let parts = Parts {
                     key: entry.key.to_vec(),
@@ -89,12 +98,31 @@ fn entries_are_those_of_the_list() {
                 assert_eq!(made.as_deref(), Ok(bytes));
                 entries += 1;
             }
-            for past in [count as u64, count as u64 + 1, 1 << 32, u64::MAX] {
-                assert_eq!(compare_entry(&file, past), Ok(None));
-            }
         }
     }
     println!("{entries} entries");
+}
+
+/// Past the entries of a page there is none, though the next page has some; nor past the pages.
+#[test]
+fn no_entry_past_a_page() {
+    let mut random = Random::of_test();
+    for settings in all_settings() {
+        let full = settings.entries_per_page();
+        for count in [0, 1, full - 1, full, full + 1, 2 * full + 7] {
+            let count = count.min(keys(settings));
+            let file = IndexFile::random(&mut random, settings, count).bytes;
+            let pages = settings.pages(count) as u32;
+            let past_slots = (0..pages).flat_map(|page| {
+                let on_page = (count - page as usize * full).min(full) as u32;
+                [on_page, on_page + 1, u32::MAX].map(|slot| (page, slot))
+            });
+            let past_pages = [pages, pages + 1, u32::MAX].map(|page| (page, 0));
+            for (page, slot) in past_slots.chain(past_pages) {
+                assert_eq!(compare_entry(&file, Page(page), Slot(slot)), Ok(None));
+            }
+        }
+    }
 }
 
 /// The highest archive number and offset of each offset width, and one more.

@@ -3,7 +3,7 @@
 //! plain reading, and the listing.
 
 use second::index::{
-    FOOTER, Index, Lookup, MOST_ENTRIES, MOST_LISTED, PAGE, Settings, bound, check, footer,
+    FOOTER, Index, Lookup, MOST_ENTRIES, MOST_LISTED, PAGE, Settings, bound, check, entry, footer,
     is_loose, list, listing, lookup, page, printed, write,
 };
 use second::md5;
@@ -244,6 +244,36 @@ fn parts_of_pages() {
     }
     assert_eq!(page(&file(K1_W4, &[]), 0), Ok(None));
     assert_eq!(page(&[], 0), Err(refusal::INDEX_TOO_SHORT));
+}
+
+/// The entries in the slots of the pages are those of the list, and there are no others.
+#[test]
+fn entries_of_pages() {
+    for settings in [settings(2, 4), settings(9, 5), settings(16, 6)] {
+        let full = settings.entries_per_page();
+        let written = counted_list(settings, 2 * full + 5, 0, 3);
+        let file = file(settings, &written);
+        let mut listed = (0..).zip(written.chunks(settings.entry_len()));
+        for (at, count) in [(0, full as u64), (1, full as u64), (2, 5)] {
+            for slot in 0..count {
+                let (number, bytes) = listed.next().unwrap();
+                let entry = entry(&file, at, slot).unwrap().unwrap();
+                assert_eq!((entry.page as u64, entry.slot as u64), (at, slot));
+                assert_eq!(entry.key, &bytes[..settings.key_len()]);
+                let told = (entry.size, entry.archive, entry.offset);
+                assert_eq!(told, (number, 0, 7 * u64::from(number)));
+            }
+            for past in [count, 1 << 32, u64::MAX] {
+                assert_eq!(entry(&file, at, past), Ok(None));
+            }
+        }
+        for past in [3, 1 << 32, u64::MAX] {
+            assert_eq!(entry(&file, past, 0), Ok(None));
+        }
+        assert_eq!(entry(&file[1..], 0, 0), Err(refusal::FILE_LENGTH));
+    }
+    assert_eq!(entry(&file(K1_W4, &[]), 0, 0), Ok(None));
+    assert_eq!(entry(&[], 0, 0), Err(refusal::INDEX_TOO_SHORT));
 }
 
 #[test]

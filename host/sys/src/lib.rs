@@ -45,7 +45,8 @@ unsafe extern "C" {
     pub fn dwarnizza_index_entry(
         index: *const u8,
         index_len: usize,
-        number: u64,
+        page: u64,
+        slot: u64,
         answer: &mut [u64; 8],
     ) -> u32;
 

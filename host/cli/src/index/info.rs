@@ -2,6 +2,7 @@
 
 use std::ffi::OsStr;
 
+use dwarnizza::index::{IndexEntry, Page, Slot, Summary};
 use dwarnizza::{Refusal, UncheckedIndex};
 
 use super::{IndexFile, summary_fields};
@@ -45,17 +46,29 @@ fn info(name: &OsStr) -> Result<Vec<Field>, Failure> {
 
 fn unchecked_fields(index: UncheckedIndex<'_>) -> Result<Vec<Field>, Refusal> {
     let summary = index.summary()?;
-    let key = |number: u64| {
-        let entry = index.entry(number)?;
-        Ok(entry.map(|entry| hex(entry.key)).into())
-    };
+    let key = |entry: Option<IndexEntry<'_>>| entry.map(|entry| hex(entry.key)).into();
     let mut fields = Vec::from(summary_fields(summary));
     fields.extend([
         ("length", index.bytes().len().into()),
         ("name", hex(&index.name()?).into()),
-        ("first", key(0)?),
-        ("last", key((summary.entries as u64).saturating_sub(1))?),
+        ("first", key(index.entry_at(Page(0), Slot(0))?)),
+        ("last", key(last_entry(index, summary)?)),
         ("comparisons", index.bound()?.into()),
     ]);
     Ok(fields)
+}
+
+/// The entry in the last slot of the last page.
+fn last_entry<'a>(
+    index: UncheckedIndex<'a>,
+    summary: Summary,
+) -> Result<Option<IndexEntry<'a>>, Refusal> {
+    let Some(page) = summary.page_numbers().next_back() else {
+        return Ok(None);
+    };
+    let parts = index.page(page)?;
+    match parts.and_then(|parts| parts.slots().next_back()) {
+        Some(slot) => index.entry_at(page, slot),
+        None => Ok(None),
+    }
 }

@@ -3,6 +3,7 @@
 use std::ffi::OsStr;
 
 use dwarnizza::CheckedIndex;
+use dwarnizza::index::Page;
 
 use super::{IndexFile, entry_fields, summary_fields};
 use crate::command::{Arguments, Choice, Command};
@@ -18,8 +19,8 @@ pub const RAW: Choice = Choice {
     summary: "entries as their bytes, with nothing between",
 };
 
-/// How many lines are made at once.
-const AT_ONCE: usize = 4096;
+/// The entries of how many pages are made text at once.
+const AT_ONCE: usize = 24;
 
 pub const COMMAND: Command = Command {
     name: "index list",
@@ -75,19 +76,20 @@ fn lines(
     mut put: impl FnMut(&str) -> Result<(), Failure>,
 ) -> Result<(), Failure> {
     let settings = index.settings();
-    let entries = index.summary().entries;
+    let summary = index.summary();
     put(&format!(
-        "index\tversion={}\toffset={}\tkey={}\tentries={entries}\n",
-        settings.version, settings.offset_width, settings.key_length
+        "index\tversion={}\toffset={}\tkey={}\tentries={}\n",
+        settings.version, settings.offset_width, settings.key_length, summary.entries
     ))?;
-    let starts: Vec<usize> = (0..entries).step_by(AT_ONCE).collect();
-    parallel::each(&starts, |&start| text(index, start), |_, text| put(&text))
+    let pages: Vec<Page> = summary.page_numbers().collect();
+    let parts: Vec<&[Page]> = pages.chunks(AT_ONCE).collect();
+    parallel::each(&parts, |pages| text(index, pages), |_, text| put(&text))
 }
 
-/// The lines of the entries from this one, as many as are made at once.
-fn text(index: CheckedIndex<'_>, start: usize) -> String {
+/// The lines of the entries of these pages.
+fn text(index: CheckedIndex<'_>, pages: &[Page]) -> String {
     let settings = index.settings();
     let line = |entry| text_of(&entry_fields(settings, &entry)) + "\n";
-    let entries = index.entries().skip(start).take(AT_ONCE);
+    let entries = pages.iter().flat_map(|&page| index.entries_on(page));
     entries.map(line).collect()
 }

@@ -3,7 +3,7 @@
 use std::ffi::{OsStr, OsString};
 use std::sync::atomic::{AtomicUsize, Ordering};
 
-use dwarnizza::index::{IndexEntry, Lookup, Settings};
+use dwarnizza::index::{IndexEntry, Lookup, Page, Settings, Slot};
 use dwarnizza::{CheckedIndex, Key, Refusal, UncheckedIndex};
 
 use super::{IndexFile, archive};
@@ -229,18 +229,16 @@ impl One<'_> {
     /// Of the sought keys, those between the index's first and last are looked up one by one where
     /// they are few beside its entries. Else its list is gone through once, as both rise.
     fn checked(&self, index: CheckedIndex<'_>) -> Vec<(usize, Place)> {
-        let entries = index.summary().entries;
-        let ends = [0, entries.saturating_sub(1)].map(|number| index.entry(number as u64));
-        let [Some(first), Some(last)] = ends else {
+        let Some([first, last]) = ends(index) else {
             return Vec::new();
         };
-        let keys = self.sought.between(first.key, last.key);
-        if keys.len() > entries / 2 {
-            return self.go_through(index, entries, keys);
+        let keys = self.sought.between(first, last);
+        if keys.len() > index.summary().entries / 2 {
+            return self.go_through(index, keys);
         }
         let wanted = keys.iter().filter(|key| self.is_wanted(key));
         let found = wanted.filter_map(|key| {
-            let found = index.find(&key.0[..first.key.len()]);
+            let found = index.find(&key.0[..first.len()]);
             let at = found.expect("it has the index's length").found()?;
             Some(self.place(key, &index.entry_at(at.page, at.slot)?))
         });
@@ -263,22 +261,19 @@ impl One<'_> {
         found.collect()
     }
 
-    fn go_through(
-        &self,
-        index: CheckedIndex<'_>,
-        entries: usize,
-        mut keys: &[Numbered],
-    ) -> Vec<(usize, Place)> {
+    fn go_through(&self, index: CheckedIndex<'_>, mut keys: &[Numbered]) -> Vec<(usize, Place)> {
         let list = index.list();
+        let mut entries = list.chunks_exact(list.len() / index.summary().entries);
         let key_length = usize::from(self.settings.key_length);
         let mut found = Vec::new();
-        for (number, entry) in (0..).zip(list.chunks_exact(list.len() / entries)) {
+        for (page, slot) in places(index) {
+            let entry = entries.next().expect("the list has it");
             let key = rank(&entry[..key_length]);
             keys = &keys[below(keys, key)..];
             let same = keys.iter().take_while(|(other, _)| rank(other) == key);
             let mut wanted = same.filter(|key| self.is_wanted(key)).peekable();
             if wanted.peek().is_some() {
-                let entry = index.entry(number).expect("the list has it");
+                let entry = index.entry_at(page, slot).expect("it is there");
                 found.extend(wanted.map(|key| self.place(key, &entry)));
             }
         }
@@ -301,6 +296,22 @@ impl One<'_> {
         };
         (*number, place)
     }
+}
+
+/// The first and the last key of an index; none where it has no entries. The last is that stored of
+/// the last page, which the full check compared with the entry.
+fn ends(index: CheckedIndex<'_>) -> Option<[&[u8]; 2]> {
+    let first = index.entry_at(Page(0), Slot(0))?;
+    let last = index.page(index.summary().page_numbers().next_back()?)?;
+    Some([first.key, &index.bytes()[last.last_key]])
+}
+
+/// The pages and slots of the entries of an index, in order.
+fn places(index: CheckedIndex<'_>) -> impl Iterator<Item = (Page, Slot)> {
+    index.summary().page_numbers().flat_map(move |page| {
+        let parts = index.page(page).expect("it has this page");
+        parts.slots().map(move |slot| (page, slot))
+    })
 }
 
 /// How many of these keys, which rise, are below this one. It is quick where they are few.

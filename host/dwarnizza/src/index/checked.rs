@@ -1,7 +1,6 @@
 //! An index that passed the full check.
 
 use std::iter::FusedIterator;
-use std::ops::Range;
 
 use super::{IndexEntry, Lookup, Page, PageParts, Settings, Slot, Summary, UncheckedIndex};
 use crate::answer::{size, unrefused};
@@ -141,28 +140,36 @@ impl<'a> CheckedIndex<'a> {
     pub fn entries(self) -> Entries<'a> {
         Entries {
             index: self,
-            numbers: 0..self.summary.entries as u64,
+            page: Page(0),
+            slot: Slot(0),
+            left: self.summary.entries,
         }
     }
 
-    /// The entry with this number, counted from 0 through all pages; none where the index has no
-    /// such entry.
+    /// The entries of a page, in the order of their keys; none where the index has no such page.
     ///
     /// ```
     /// use dwarnizza::Index;
+    /// use dwarnizza::index::Page;
     ///
     /// let name = "../../sample/archives/066a04990bc3bbc7c21bab87f0144807.index";
     /// let file = std::fs::read(name)?;
     /// let index = Index::check(&file)?;
-    /// assert_eq!(index.entry(0), index.entries().next());
-    /// assert_eq!(index.entry(21), None);
+    /// assert!(index.entries_on(Page(0)).eq(index.entries()));
+    /// assert_eq!(index.entries_on(Page(1)).len(), 0);
     /// # Ok::<(), Box<dyn std::error::Error>>(())
     /// ```
-    pub fn entry(self, number: u64) -> Option<IndexEntry<'a>> {
-        unrefused(self.unchecked.entry(number))
+    pub fn entries_on(self, page: Page) -> Entries<'a> {
+        Entries {
+            index: self,
+            page,
+            slot: Slot(0),
+            left: self.page(page).map_or(0, |parts| parts.entries),
+        }
     }
 
-    /// The entry at a place, as a lookup tells it; none where there is none.
+    /// The entry in a slot of a page, as a lookup tells them; none where the index has no such page,
+    /// or the page no such slot.
     ///
     /// ```
     /// use dwarnizza::{Index, Key};
@@ -239,37 +246,53 @@ impl<'a> CheckedIndex<'a> {
     }
 }
 
-/// The entries of an index, in the order of their keys: [`CheckedIndex::entries`].
+/// Entries of an index, in the order of their keys: [`CheckedIndex::entries`] and
+/// [`CheckedIndex::entries_on`].
 ///
 /// ```
 /// use dwarnizza::Index;
+/// use dwarnizza::index::{Page, Slot};
 ///
 /// let name = "../../sample/archives/066a04990bc3bbc7c21bab87f0144807.index";
 /// let file = std::fs::read(name)?;
 /// let index = Index::check(&file)?;
-/// // A skip takes no time.
-/// assert_eq!(index.entries().nth(10), index.entry(10));
+/// // A skip goes over what is skipped; a place is known at once.
+/// assert_eq!(index.entries().nth(10), index.entry_at(Page(0), Slot(10)));
 /// # Ok::<(), Box<dyn std::error::Error>>(())
 /// ```
 #[derive(Clone, Debug)]
 pub struct Entries<'a> {
     index: CheckedIndex<'a>,
-    numbers: Range<u64>,
+    /// Where the next entry stands; past a page's entries it is the first of the next page.
+    page: Page,
+    slot: Slot,
+    /// How many are to come.
+    left: usize,
+}
+
+impl<'a> Entries<'a> {
+    /// The first entry of the page after this one.
+    fn turn(&mut self) -> IndexEntry<'a> {
+        self.page = Page(self.page.0 + 1);
+        self.slot = Slot(0);
+        let first = self.index.entry_at(self.page, self.slot);
+        first.expect("a checked index has the entries that it says, and each page has one")
+    }
 }
 
 impl<'a> Iterator for Entries<'a> {
     type Item = IndexEntry<'a>;
 
     fn next(&mut self) -> Option<Self::Item> {
-        self.nth(0)
-    }
-
-    fn nth(&mut self, skipped: usize) -> Option<Self::Item> {
-        self.index.entry(self.numbers.nth(skipped)?)
+        self.left = self.left.checked_sub(1)?;
+        let here = self.index.entry_at(self.page, self.slot);
+        let entry = here.unwrap_or_else(|| self.turn());
+        self.slot = Slot(self.slot.0 + 1);
+        Some(entry)
     }
 
     fn size_hint(&self) -> (usize, Option<usize>) {
-        self.numbers.size_hint()
+        (self.left, Some(self.left))
     }
 }
 

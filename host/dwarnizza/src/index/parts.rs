@@ -2,8 +2,8 @@
 
 use std::ops::Range;
 
-use super::Summary;
-use crate::answer::{Words, size};
+use super::{Slot, Summary};
+use crate::answer::{Words, number, size};
 
 /// What the footer of an index says.
 ///
@@ -68,6 +68,22 @@ pub struct PageParts {
 }
 
 impl PageParts {
+    /// The slots of its entries, from 0.
+    ///
+    /// ```
+    /// use dwarnizza::Index;
+    /// use dwarnizza::index::{Page, Slot};
+    ///
+    /// let name = "../../sample/archives/066a04990bc3bbc7c21bab87f0144807.index";
+    /// let file = std::fs::read(name)?;
+    /// let parts = Index::check(&file)?.page(Page(0)).expect("it has one");
+    /// assert_eq!(parts.slots().next_back(), Some(Slot(20)));
+    /// # Ok::<(), Box<dyn std::error::Error>>(())
+    /// ```
+    pub fn slots(&self) -> impl DoubleEndedIterator<Item = Slot> + use<> {
+        (0..number(self.entries as u64)).map(Slot)
+    }
+
     /// The parts that an answer names.
     pub(super) fn from_words(words: Words) -> Self {
         let [

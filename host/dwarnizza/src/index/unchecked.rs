@@ -148,46 +148,25 @@ impl<'a> UncheckedIndex<'a> {
         Ok(number(bound))
     }
 
-    /// The entry with this number, counted from 0 through all pages; none where the index has no
-    /// such entry. The time is the same for every index and number.
+    /// The entry in a slot of a page, as a lookup tells them; none where the index has no such page,
+    /// or the page no such slot. The time is the same for every index, page and slot.
     ///
     /// ```
     /// use dwarnizza::Index;
-    /// use dwarnizza::index::{Settings, entry_bytes};
+    /// use dwarnizza::index::{Page, Settings, Slot, entry_bytes};
     ///
     /// let settings = Settings { version: 1, offset_width: 4, key_length: 1 };
     /// let file = Index::write(settings, &entry_bytes(settings, [5], 7, 0, 9)?)?;
     /// let index = Index::unchecked(&file);
-    /// assert_eq!(index.entry(0)?.expect("it has one").key, [5]);
-    /// assert_eq!(index.entry(1)?, None);
+    /// assert_eq!(index.entry_at(Page(0), Slot(0))?.expect("it has one").key, [5]);
+    /// assert_eq!(index.entry_at(Page(0), Slot(1))?, None);
+    /// assert_eq!(index.entry_at(Page(1), Slot(0))?, None);
     /// # Ok::<(), dwarnizza::Refusal>(())
     /// ```
-    pub fn entry(self, number: u64) -> Result<Option<IndexEntry<'a>>, Refusal> {
-        let search = library::index_entry(self.index, number)?;
+    pub fn entry_at(self, page: Page, slot: Slot) -> Result<Option<IndexEntry<'a>>, Refusal> {
+        let search = library::index_entry(self.index, page.0.into(), slot.0.into())?;
         let words = search.found();
         Ok(words.map(|words| IndexEntry::from_words(self.index, words)))
-    }
-
-    /// The entry at a place, as a lookup tells it; none where there is none.
-    ///
-    /// ```
-    /// use dwarnizza::Index;
-    /// use dwarnizza::index::{Page, Slot};
-    ///
-    /// let name = "../../sample/archives/066a04990bc3bbc7c21bab87f0144807.index";
-    /// let file = std::fs::read(name)?;
-    /// let index = Index::unchecked(&file);
-    /// assert_eq!(index.entry_at(Page(0), Slot(3))?, index.entry(3)?);
-    /// assert_eq!(index.entry_at(Page(0), Slot(21))?, None);
-    /// # Ok::<(), Box<dyn std::error::Error>>(())
-    /// ```
-    pub fn entry_at(self, page: Page, slot: Slot) -> Result<Option<IndexEntry<'a>>, Refusal> {
-        match self.page(page)? {
-            Some(parts) if (slot.0 as usize) < parts.entries => {
-                self.entry(parts.first_entry + u64::from(slot.0))
-            }
-            _ => Ok(None),
-        }
     }
 
     /// Where a page and what belongs to it stand; none where the index has no such page.

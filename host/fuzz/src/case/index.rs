@@ -62,32 +62,41 @@ fn make_loose(file: &mut [u8]) {
     }
 }
 
-/// Entries and pages by their numbers, about the number of all and of a page's entries.
+/// Entries by page and slot, and pages, about the number of pages and of a page's entries.
 fn entries(
     random: &mut Random,
     comparison: &mut Comparison,
     index: &Index,
     file: &[u8],
 ) -> Compared {
-    let full = index.list.settings.entries_per_page();
-    let numbers = [
-        random.within(0..=index.list.entries),
-        index.list.entries,
-        index.list.entries.wrapping_sub(1),
-        random.pick(&[full - 1, full, full + 1]),
-        random.number(64) as usize,
-    ];
+    let settings = index.list.settings;
+    let pages = settings.pages(index.list.entries);
+    let full = settings.entries_per_page();
+    let on_last = index.list.entries - full * pages.saturating_sub(1);
     for _ in 0..2 {
-        let number = random.pick(&numbers) as u64;
-        let given = Given::new([file], [number]);
+        let page = about(random, pages);
+        let on_page = random.pick(&[full, on_last, on_last]);
+        let given = Given::new([file], [page, about(random, on_page)]);
         comparison.call(&INDEX_ENTRY, &given, Output::None)?;
-        let pages = index.list.settings.pages(index.list.entries);
-        let any = random.within(0..=pages) as u64;
-        let page = random.pick(&[any, any, number]);
-        let given = Given::new([file], [page]);
+        let given = Given::new([file], [about(random, pages)]);
         comparison.call(&INDEX_PAGE, &given, Output::None)?;
     }
     Ok(())
+}
+
+/// Mostly a number below this count, else one about it, one whose lowest 32 bits alone are below
+/// it, or any.
+fn about(random: &mut Random, count: usize) -> u64 {
+    let below = random.up_to(count.saturating_sub(1)) as u64;
+    let count = count as u64;
+    match random.within(0..=11) {
+        0 => random.number(64),
+        1 => below | random.pick(&[1 << 32, 1 << 63, u64::MAX << 32]),
+        2 => count,
+        3 => count + 1,
+        4 => count.saturating_sub(1),
+        _ => below,
+    }
 }
 
 fn lookups(

@@ -12,6 +12,8 @@ pub enum Function {
     FileAndU32(unsafe extern "C" fn(*const u8, usize, u32, &mut Words) -> u32),
     /// A file and a number of 64 bits.
     FileAndU64(unsafe extern "C" fn(*const u8, usize, u64, &mut Words) -> u32),
+    /// A file and two numbers of 64 bits.
+    FileAndTwoU64(unsafe extern "C" fn(*const u8, usize, u64, u64, &mut Words) -> u32),
     /// A file and a key.
     FileAndKey(unsafe extern "C" fn(*const u8, usize, *const u8, usize, &mut Words) -> u32),
     /// A file and an output.
@@ -32,7 +34,7 @@ impl Function {
     pub unsafe fn call(self, given: &Given, lent: Lent) -> u32 {
         let (at, length) = given.lent(0);
         let (key, key_length) = given.lent(1);
-        let number = given.numbers[0];
+        let [number, second, ..] = given.numbers;
         // SAFETY: pointers and lengths are those of slices, or NULL and 0; the rest is as the caller
         // says.
         unsafe {
@@ -41,6 +43,7 @@ impl Function {
                 Self::File(call) => call(at, length, answer),
                 Self::FileAndU32(call) => call(at, length, number as u32, answer),
                 Self::FileAndU64(call) => call(at, length, number, answer),
+                Self::FileAndTwoU64(call) => call(at, length, number, second, answer),
                 Self::FileAndKey(call) => call(at, length, key, key_length, answer),
                 Self::FileToOutput(call) => call(at, length, lent.output, lent.length, answer),
                 Self::FileTo16(call) => call(at, length, bytes_16(lent), answer),

@@ -145,15 +145,16 @@ pub static INDEX_SETTINGS: Export = Export {
     refusals: &[OPENING],
 };
 
-/// An entry by its number.
+/// An entry by its page and slot.
 pub static INDEX_ENTRY: Export = Export {
     name: "dwarnizza_index_entry",
     inputs: &["index"],
-    numbers: &["number"],
-    library: Function::FileAndU64(sys::dwarnizza_index_entry),
+    numbers: &["page", "slot"],
+    library: Function::FileAndTwoU64(sys::dwarnizza_index_entry),
     second: |given, _| {
         let file = given.bytes[0];
-        Said::of_found(index::entry(file, given.numbers[0]), |entry| {
+        let [page, slot, ..] = given.numbers;
+        Said::of_found(index::entry(file, page, slot), |entry| {
             let [place, key_length] = part(file, entry.key);
             let (page, slot) = (entry.page as u64, entry.slot as u64);
             let (size, archive) = (entry.size.into(), entry.archive.into());

@@ -1,4 +1,4 @@
-//! One entry: read from an index by its number, or made for a list.
+//! One entry: read from a slot of a page, or made for a list.
 
 use super::{Index, SIZE_WIDTH, Settings};
 use crate::number::big_endian;
@@ -21,23 +21,18 @@ pub struct Entry<'a> {
     pub slot: usize,
 }
 
-/// The entry with this number, of all that stand on the pages; refuses as the opening checks do.
-pub fn entry(file: &[u8], number: u64) -> Result<Option<Entry<'_>>, Refusal> {
+/// The entry in this slot of this page; refuses as the opening checks do.
+pub fn entry(file: &[u8], page: u64, slot: u64) -> Result<Option<Entry<'_>>, Refusal> {
     let index = Index::open(file)?;
-    let settings = index.settings;
-    let mut left = number;
-    for page in 0..index.pages() {
-        let (entries, _) = index.split_page(page);
-        let entries = entries.chunks_exact(settings.entry_len());
-        let count = entries.len() as u64;
-        if left < count {
-            let slot = left as usize;
-            let bytes = { entries }.nth(slot).expect("the page has it");
-            return Ok(Some(read(settings, bytes, page, slot)));
-        }
-        left -= count;
+    let (Ok(page), Ok(slot)) = (usize::try_from(page), usize::try_from(slot)) else {
+        return Ok(None);
+    };
+    if page >= index.pages() {
+        return Ok(None);
     }
-    Ok(None)
+    let (entries, _) = index.split_page(page);
+    let bytes = entries.chunks_exact(index.settings.entry_len()).nth(slot);
+    Ok(bytes.map(|bytes| read(index.settings, bytes, page, slot)))
 }
 
 fn read(settings: Settings, entry: &[u8], page: usize, slot: usize) -> Entry<'_> {

@@ -106,18 +106,48 @@ fn page() {
     assert_eq!(numbered(page, &index[1..], 0), refused(5, 0));
 }
 
+fn entry(index: &[u8], page: u64, slot: u64) -> Answer {
+    // SAFETY: pointer and length are those of one slice.
+    answer(|answer| unsafe {
+        ffi::dwarnizza_index_entry(index.as_ptr(), index.len(), page, slot, answer)
+    })
+}
+
 #[test]
-fn entry() {
-    let entry = ffi::dwarnizza_index_entry;
+fn entry_in_a_slot() {
     let six = index_of_two(6);
     let words = [11, 1, 7, 0x0801, 0x0101_0101, 0, 1, 0];
-    assert_eq!(numbered(entry, &six, 1), (0, words));
+    assert_eq!(entry(&six, 0, 1), (0, words));
     let five = index_of_two(5);
     let words = [10, 1, 7, 0, 0x08_0101_0101, 0, 1, 0];
-    assert_eq!(numbered(entry, &five, 1), (0, words));
-    assert_eq!(numbered(entry, &five, 2), ABSENT);
-    assert_eq!(numbered(entry, &five, 1 << 32), ABSENT);
-    assert_eq!(numbered(entry, &five[..27], 0), refused(1, 0));
+    assert_eq!(entry(&five, 0, 1), (0, words));
+    for past in [2, 1 << 32, (1 << 32) + 1, u64::MAX] {
+        assert_eq!(entry(&five, 0, past), ABSENT);
+    }
+    for past in [1, 1 << 32, u64::MAX] {
+        assert_eq!(entry(&five, past, 1), ABSENT);
+    }
+    assert_eq!(entry(&five[..27], 0, 0), refused(1, 0));
+}
+
+/// A full page and one entry: a slot past a page's entries is none of the next page.
+#[test]
+fn entry_on_a_second_page() {
+    let settings = settings(2, 4);
+    let full = settings.entries_per_page();
+    let mut list = Vec::new();
+    for key in 0..=full as u16 {
+        list.extend(key.to_be_bytes());
+        list.extend([0, 0, 0, 7, 0, 0, 0, 9]);
+    }
+    let index = of_list(settings, &list);
+    let (full, length) = (full as u64, settings.entry_len() as u64);
+    let last = [(full - 1) * length, 2, 7, 0, 9, 0, full - 1, 0];
+    assert_eq!(entry(&index, 0, full - 1), (0, last));
+    assert_eq!(entry(&index, 0, full), ABSENT);
+    assert_eq!(entry(&index, 1, 0), (0, [4096, 2, 7, 0, 9, 1, 0, 0]));
+    assert_eq!(entry(&index, 1, 1), ABSENT);
+    assert_eq!(entry(&index, 2, 0), ABSENT);
 }
 
 #[test]

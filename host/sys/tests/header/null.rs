@@ -95,7 +95,7 @@ fn reading(none: Pointers) -> Vec<Case> {
     vec![
         case!(dwarnizza_index_check(none.input, 0), [index] => refused(1)),
         case!(dwarnizza_index_settings(none.input, 0), [index] => refused(1)),
-        case!(dwarnizza_index_entry(none.input, 0, 0), [index] => refused(1)),
+        case!(dwarnizza_index_entry(none.input, 0, 0, 0), [index] => refused(1)),
         case!(dwarnizza_index_footer(none.input, 0), [index] => refused(1)),
         case!(dwarnizza_index_loose(none.input, 0), [index] => ABSENT),
         case!(dwarnizza_index_page(none.input, 0, 0), [index] => refused(1)),
