@@ -82,7 +82,7 @@ class IndexEntry(NamedTuple):
     """An entry as it stands in an index.
 
     >>> data = write_index(Settings(1, 6, 1), bytes([5, 0, 0, 0, 7, 0, 2, 0, 0, 0, 9]))
-    >>> Index.check(data).entry(0)
+    >>> Index.check(data).entry_at(0, 0)
     IndexEntry(key=b'\\x05', size=7, archive=2, offset=9, page=0, slot=0, place=0)
     """
 
@@ -142,12 +142,6 @@ class _Index(File):
         """The entry of a key; none where it is absent. Refused as `lookup` refuses."""
         return self.lookup(key).entry
 
-    def entry(self, number: int) -> Optional[IndexEntry]:
-        """The entry with this number, from 0 through the whole file; none past the last."""
-        found, words = call("index_entry", self._data, number)
-        place, length, *values = words[:7]
-        return IndexEntry(self._part(place, length), *values, place) if found else None
-
     def page(self, page: int) -> Optional[PageParts]:
         """Where a page and its parts stand; none past the last."""
         found, words = call("index_page", self._data, page)
@@ -161,7 +155,7 @@ class _Index(File):
         return parts if found else None
 
     def entry_at(self, page: int, slot: int) -> Optional[IndexEntry]:
-        """The entry at a place on a page; none where the page has none there.
+        """The entry in a slot of a page; none past the last page, and past the page's entries.
 
         >>> data = write_index(Settings(1, 6, 1), bytes([5, 0, 0, 0, 7, 0, 2, 0, 0, 0, 9]))
         >>> index = Index.check(data)
@@ -170,10 +164,9 @@ class _Index(File):
         >>> entry.archive, entry.offset
         (2, 9)
         """
-        parts = self.page(page)
-        if parts is None or not 0 <= slot < len(parts.entries):
-            return None
-        return self.entry(parts.entries[slot])
+        found, words = call("index_entry", self._data, page, slot)
+        place, length, *values = words[:7]
+        return IndexEntry(self._part(place, length), *values, place) if found else None
 
     def footer(self) -> Footer:
         """What the footer says: the last bytes of a file are enough. Refused as the opening
@@ -213,12 +206,22 @@ class CheckedIndex(_Index):
 
     def entries(self) -> Iterator[IndexEntry]:
         """The entries, in order."""
-        number = 0
-        entry = self.entry(number)
+        for page in range(self.summary.pages):
+            yield from self.entries_on(page)
+
+    def entries_on(self, page: int) -> Iterator[IndexEntry]:
+        """The entries of a page, in order; none past the last page.
+
+        >>> data = write_index(Settings(1, 4, 1), bytes([5, 0, 0, 0, 7, 0, 0, 0, 9]))
+        >>> [entry.key for entry in Index.check(data).entries_on(0)]
+        [b'\\x05']
+        """
+        slot = 0
+        entry = self.entry_at(page, slot)
         while entry is not None:
             yield entry
-            number += 1
-            entry = self.entry(number)
+            slot += 1
+            entry = self.entry_at(page, slot)
 
     def list(self) -> bytes:
         """The entries' bytes, in order with nothing between, as `write_index` takes them."""

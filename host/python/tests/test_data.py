@@ -141,7 +141,10 @@ class Numbers(unittest.TestCase):
             lambda: root.find(417, unwanted=2**64),
             lambda: root.find_many([417, 417 + 2**32]),
             lambda: root.find_many([-1]),
-            lambda: index.entry(-1),
+            lambda: index.entry_at(-1, 0),
+            lambda: index.entry_at(0, -1),
+            lambda: index.entry_at(2**64, 0),
+            lambda: index.entry_at(0, 2**64),
             lambda: key_from_text("00", 1 + 2**32),
             lambda: write_index(Settings(1 + 2**32, 4, 1), b""),
         ):

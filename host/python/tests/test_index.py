@@ -59,7 +59,8 @@ class Indexes(unittest.TestCase):
             self.assertEqual(index.summary.entries, 250)
             self.assertEqual(list(index.entries()), entries)
             self.assertEqual(index.list(), b"".join(listed))
-            self.assertIsNone(index.entry(250))
+            for entry in entries:
+                self.assertEqual(index.entry_at(entry.page, entry.slot), entry)
 
     def test_a_lookup_finds_what_stands_there_and_nothing_else(self) -> None:
         settings = Settings(1, 6, 2)
@@ -91,7 +92,11 @@ class Indexes(unittest.TestCase):
         self.assertEqual(data[last.last_key], entries[170].key)
         self.assertEqual(data[first.hash], forge.md5(data[first.page]).digest()[:8])
         self.assertIsNone(index.page(2))
-        for page, slot in [(1, 1), (0, 170), (2, 0), (0, -1)]:
+        self.assertEqual(list(index.entries_on(0)), entries[:170])
+        self.assertEqual(list(index.entries_on(1)), entries[170:])
+        self.assertEqual(list(index.entries_on(2)), [])
+        past = [(1, 1), (0, 170), (2, 0), (2**32, 0), (0, 2**32), (2**64 - 1, 0), (0, 2**64 - 1)]
+        for page, slot in past:
             self.assertIsNone(index.entry_at(page, slot))
 
     def test_an_output_longer_than_the_answer_keeps_the_rest(self) -> None:
@@ -118,7 +123,7 @@ class Unchecked(unittest.TestCase):
         falling = [bytes([key]) + bytes(8) for key in (6, 5)]
         index = Index.unchecked(forge.index(falling))
         self.assertEqual(index.summary.entries, 2)
-        self.assertEqual(index.entry(1).key, b"\x05")
+        self.assertEqual(index.entry_at(0, 1).key, b"\x05")
         self.assertEqual(index.lookup(b"\x06"), Lookup(None, 1))
 
     def test_the_last_bytes_tell_the_footer(self) -> None:

@@ -74,7 +74,7 @@ def index_calls() -> List[Case]:
         (10, 0, lambda: index.lookup(b"")),
         (13, 0, lambda: index.list_into(bytearray(17))),
         (5, 0, lambda: unchecked.find(b"\x05")),
-        (5, 0, lambda: unchecked.entry(0)),
+        (5, 0, lambda: unchecked.entry_at(0, 0)),
         (5, 0, lambda: unchecked.page(0)),
         (5, 0, lambda: unchecked.bound),
         (5, 0, lambda: unchecked.summary),
