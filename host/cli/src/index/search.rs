@@ -240,7 +240,8 @@ impl One<'_> {
         let found = wanted.filter_map(|key| {
             let found = index.find(&key.0[..first.len()]);
             let at = found.expect("it has the index's length").found()?;
-            Some(self.place(key, &index.entry_at(at.page, at.slot)?))
+            let entry = index.entry_at(at.page, at.slot);
+            Some(self.place(key, &entry.expect("it was found there")))
         });
         found.collect()
     }
