@@ -16,7 +16,9 @@ pub extern "C" fn dwarnizza_envelope_open(
     answer: &mut [u64; 8],
 ) -> u32
     ensures { λ r. ⌜ Crosses (envelope.openOutcome (now (file .entry)) (now (key .entry)) (length (now (output .entry)))) r (now (answer .exit)) ⌝ }
-    ensures { λ _. ⌜ now (output .exit) ≡ filled (envelope.openCheck (now (file .entry)) (now (key .entry)) (length (now (output .entry)))) (envelope.content (now (file .entry))) (now (output .entry)) ⌝ }
+    ensures { λ _. ⌜ now (output .exit)
+        ≡ filled (envelope.openCheck (now (file .entry)) (now (key .entry)) (length (now (output .entry))))
+        (envelope.content (now (file .entry))) (now (output .entry)) ⌝ }
 {
     tell_bytes(envelope::open(file, key, output), answer)
 }

@@ -74,7 +74,8 @@ pub extern "C" fn dwarnizza_md5_update(
 ) -> u32
     ensures { λ r. ⌜ Crosses (verdictOutcome (md5.limited (now (count .entry) + length (now (part .entry))))) r (now (answer .exit)) ⌝ }
     ensures { λ _. ⌜ now (words .exit) ≡ wordsAfter (now (words .entry)) (now (pending .entry)) (now (count .entry)) (now (part .entry)) ⌝ }
-    ensures { λ _. ⌜ now (pending .exit) ≡ (md5.updated (stateOf (now (words .entry)) (now (pending .entry)) (now (count .entry))) (now (part .entry))) .pending ⌝ }
+    ensures { λ _. ⌜ now (pending .exit)
+        ≡ (md5.updated (stateOf (now (words .entry)) (now (pending .entry)) (now (count .entry))) (now (part .entry))) .pending ⌝ }
     ensures { λ _. ⌜ now (count .exit) ≡ (md5.updated (stateOf (now (words .entry)) (now (pending .entry)) (now (count .entry))) (now (part .entry))) .count ⌝ }
 {
     let n = *count;

@@ -87,7 +87,8 @@ pub extern "C" fn dwarnizza_index_list(
     answer: &mut [u64; 8],
 ) -> u32
     ensures { λ r. ⌜ Crosses (listOutcome (now (index .entry)) (length (now (output .entry)))) r (now (answer .exit)) ⌝ }
-    ensures { λ _. ⌜ now (output .exit) ≡ filled (listCheck (now (index .entry)) (length (now (output .entry)))) (listOf (now (index .entry))) (now (output .entry)) ⌝ }
+    ensures { λ _. ⌜ now (output .exit)
+        ≡ filled (listCheck (now (index .entry)) (length (now (output .entry)))) (listOf (now (index .entry))) (now (output .entry)) ⌝ }
 {
     tell_bytes(index_list::list(index, output), answer)
 }
@@ -118,8 +119,11 @@ pub extern "C" fn dwarnizza_index_write(
     output: &mut [u8],
     answer: &mut [u64; 8],
 ) -> u32
-    ensures { λ r. ⌜ Crosses (writeOutcome (settingsFrom version «offset_width» «key_length») (now (list .entry)) (length (now (output .entry)))) r (now (answer .exit)) ⌝ }
-    ensures { λ _. ⌜ now (output .exit) ≡ filled (writeCheck (settingsFrom version «offset_width» «key_length») (now (list .entry)) (length (now (output .entry)))) (fileOf (now (list .entry)) (layoutFor (settingsFrom version «offset_width» «key_length») (now (list .entry)))) (now (output .entry)) ⌝ }
+    ensures { λ r. ⌜ Crosses
+        (writeOutcome (settingsFrom version «offset_width» «key_length») (now (list .entry)) (length (now (output .entry)))) r (now (answer .exit)) ⌝ }
+    ensures { λ _. ⌜ now (output .exit)
+        ≡ filled (writeCheck (settingsFrom version «offset_width» «key_length») (now (list .entry)) (length (now (output .entry))))
+        (fileOf (now (list .entry)) (layoutFor (settingsFrom version «offset_width» «key_length») (now (list .entry)))) (now (output .entry)) ⌝ }
 {
     let settings = narrow_settings(version, offset_width, key_length);
     tell_bytes(index_writer::write(settings, list, output), answer)
@@ -153,8 +157,12 @@ pub extern "C" fn dwarnizza_list_put(
     output: &mut [u8],
     answer: &mut [u64; 8],
 ) -> u32
-    ensures { λ r. ⌜ Crosses (putOutcome (settingsFrom version «offset_width» «key_length») (now (key .entry)) archive offset (length (now (output .entry)))) r (now (answer .exit)) ⌝ }
-    ensures { λ _. ⌜ now (output .exit) ≡ filled (putCheck (settingsFrom version «offset_width» «key_length») (now (key .entry)) archive offset (length (now (output .entry)))) (entryBytes «offset_width» (now (key .entry)) size (locationOf archive offset)) (now (output .entry)) ⌝ }
+    ensures { λ r. ⌜ Crosses
+        (putOutcome (settingsFrom version «offset_width» «key_length») (now (key .entry)) archive offset (length (now (output .entry))))
+        r (now (answer .exit)) ⌝ }
+    ensures { λ _. ⌜ now (output .exit)
+        ≡ filled (putCheck (settingsFrom version «offset_width» «key_length») (now (key .entry)) archive offset (length (now (output .entry))))
+        (entryBytes «offset_width» (now (key .entry)) size (locationOf archive offset)) (now (output .entry)) ⌝ }
 {
     let settings = narrow_settings(version, offset_width, key_length);
     tell_bytes(

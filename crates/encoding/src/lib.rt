@@ -37,7 +37,10 @@ struct Judged {
 
 // One page, with its hash and what its entries tell: 34, 35, 37, 36, 38.
 fn judge(file: &[u8], h: Header, kind: Kind, page: u32, hash: &[u8; 16], w: Walked) -> Verdict
-    ensures { λ r. ⌜ checkOf r ≡ spec.inOrder page (sameBytes (now (hash .entry)) (header.pageHash (now (file .entry)) h kind page)) (entries.overEnd (now (file .entry)) kind (header.pageEnd h kind page) (w .end)) (spec.firstKeyRight (now (file .entry)) h kind page) (w .rises) (w .«specs_known») ⌝ }
+    ensures { λ r. ⌜ checkOf r
+        ≡ spec.inOrder page (sameBytes (now (hash .entry)) (header.pageHash (now (file .entry)) h kind page))
+        (entries.overEnd (now (file .entry)) kind (header.pageEnd h kind page) (w .end))
+        (spec.firstKeyRight (now (file .entry)) h kind page) (w .rises) (w .«specs_known») ⌝ }
 {
     let place = page as usize;
     if !equal(hash, page_hash(file, h, kind, page)) {
@@ -70,7 +73,9 @@ fn check_page(
     before: Span,
     specs: usize,
 ) -> Judged
-    requires { ⌜ (now hash ≡ md5 (header.pageOf (now file) h kind page)) × (entries.spanOf (now file) before ≡ spec.keyBefore (now file) h kind page) × (specs ≡ spec.specsOf (now file) h) ⌝ }
+    requires { ⌜ (now hash ≡ md5 (header.pageOf (now file) h kind page))
+        × (entries.spanOf (now file) before ≡ spec.keyBefore (now file) h kind page)
+        × (specs ≡ spec.specsOf (now file) h) ⌝ }
     ensures { λ r. ⌜ checkOf (r .verdict) ≡ spec.pageCheck (now (file .entry)) h kind page ⌝ }
     ensures { λ r. ⌜ entries.spanOf (now (file .entry)) (r .last) ≡ spec.keyBefore (now (file .entry)) h kind (page + 1) ⌝ }
 {

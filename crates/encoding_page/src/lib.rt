@@ -142,7 +142,8 @@ pub fn next(file: &[u8], h: Header, kind: Kind, end: usize, from: usize) -> usiz
 
 // Whether the first entry from an offset on has a key.
 pub fn starts_with(file: &[u8], h: Header, kind: Kind, end: usize, from: usize, key: &[u8]) -> bool
-    ensures { λ r. ⌜ r ≡ spec.startsWith (spec.keyAt (now (file .entry)) h kind) (now (key .entry)) (spec.walkFrom (now (file .entry)) h kind end from .entries) ⌝ }
+    ensures { λ r. ⌜ r
+        ≡ spec.startsWith (spec.keyAt (now (file .entry)) h kind) (now (key .entry)) (spec.walkFrom (now (file .entry)) h kind end from .entries) ⌝ }
 {
     let at = next(file, h, kind, end, from);
     if ended(file, h, kind, end, at) {
@@ -202,9 +203,12 @@ pub fn walk(
     specs: usize,
 ) -> Walked
     ensures ends { λ r. ⌜ r .end ≡ spec.walkFrom (now (file .entry)) h kind end from .end ⌝ }
-    ensures order { λ r. ⌜ r .rises ≡ spec.rising (spec.keyAt (now (file .entry)) h kind) (spec.spanOf (now (file .entry)) before) (spec.walkFrom (now (file .entry)) h kind end from .entries) ⌝ }
+    ensures order { λ r. ⌜ r .rises
+        ≡ spec.rising (spec.keyAt (now (file .entry)) h kind) (spec.spanOf (now (file .entry)) before)
+        (spec.walkFrom (now (file .entry)) h kind end from .entries) ⌝ }
     ensures last { λ r. ⌜ r .last ≡ spec.lastSpan (spec.keySpan h kind) before (spec.walkFrom (now (file .entry)) h kind end from .entries) ⌝ }
-    ensures numbers { λ r. ⌜ r .«specs_known» ≡ spec.all (spec.specKnown (now (file .entry)) h kind specs) (spec.walkFrom (now (file .entry)) h kind end from .entries) ⌝ }
+    ensures numbers { λ r. ⌜ r .«specs_known»
+        ≡ spec.all (spec.specKnown (now (file .entry)) h kind specs) (spec.walkFrom (now (file .entry)) h kind end from .entries) ⌝ }
 {
     let mut last = before;
     let mut rises = true;

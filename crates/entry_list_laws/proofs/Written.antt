@@ -22,7 +22,8 @@ use Rattle.index_open.specs.Open.{opening}
 use Rattle.index_open.proofs.Opened.{opened}
 use Rattle.index.specs.Check.{fullCheck}
 use Rattle.index_writer.specs.declared.Settings.{Settings}
-use Rattle.index_writer.specs.Write.{layoutOver, listEntrySize, listCount, layoutFor, settingsRight, settingsCheck, keyIn, listOrderCheck, inputCheck, writeCheck}
+use Rattle.index_writer.specs.Write.{layoutOver, listEntrySize, listCount, layoutFor, settingsRight}
+use Rattle.index_writer.specs.Write.{settingsCheck, keyIn, listOrderCheck, inputCheck, writeCheck}
 use Rattle.index_writer.proofs.Laws.{room-left}
 use Rattle.index_writer.proofs.Passed.{Passed, passed}
 use Rattle.index_round_trip.proofs.Back.{full-quiet, layout-back, list-back}

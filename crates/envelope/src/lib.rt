@@ -87,7 +87,9 @@ pub fn content_length(file: &[u8], key: &[u8]) -> Written
 // Puts the content of an envelope into the output. Nothing is written before all is judged.
 pub fn open(file: &[u8], key: &[u8], output: &mut [u8]) -> Written
     ensures { λ r. ⌜ writtenOutcome r ≡ spec.openOutcome (now (file .entry)) (now (key .entry)) (length (now (output .entry))) ⌝ }
-    ensures { λ _. ⌜ now (output .exit) ≡ filled (spec.openCheck (now (file .entry)) (now (key .entry)) (length (now (output .entry)))) (spec.content (now (file .entry))) (now (output .entry)) ⌝ }
+    ensures { λ _. ⌜ now (output .exit)
+        ≡ filled (spec.openCheck (now (file .entry)) (now (key .entry)) (length (now (output .entry))))
+        (spec.content (now (file .entry))) (now (output .entry)) ⌝ }
 {
     match judge(file, key) {
         Opened::Refused(r) => Written::Refused(r),

@@ -20,8 +20,11 @@ pub struct Measured {
 pub fn measure_and_open(file: &[u8], key: &[u8], output: &mut [u8]) -> Measured
     ensures { λ r. ⌜ writtenOutcome (r .length) ≡ envelopes.lengthOutcome (now (file .entry)) (now (key .entry)) ⌝ }
     ensures { λ r. ⌜ writtenOutcome (r .opened) ≡ envelopes.openOutcome (now (file .entry)) (now (key .entry)) (length (now (output .entry))) ⌝ }
-    ensures { λ _. ⌜ now (output .exit) ≡ filled (envelopes.openCheck (now (file .entry)) (now (key .entry)) (length (now (output .entry)))) (envelopes.content (now (file .entry))) (now (output .entry)) ⌝ }
-    ensures { λ r. ⌜ ((n : ℕ) → r .length ≡ Bytes n → Opened (now (file .entry)) (now (key .entry)) (now (output .entry)) (now (output .exit)) n (r .opened)) ⌝ }
+    ensures { λ _. ⌜ now (output .exit)
+        ≡ filled (envelopes.openCheck (now (file .entry)) (now (key .entry)) (length (now (output .entry))))
+        (envelopes.content (now (file .entry))) (now (output .entry)) ⌝ }
+    ensures { λ r. ⌜ ((n : ℕ) → r .length ≡ Bytes n
+        → Opened (now (file .entry)) (now (key .entry)) (now (output .entry)) (now (output .exit)) n (r .opened)) ⌝ }
 {
     let length = envelope::content_length(file, key);
     let opened = envelope::open(file, key, output);

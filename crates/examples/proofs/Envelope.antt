@@ -15,5 +15,8 @@ use Rattle.examples.specs.Examples.{EachHolds, m11}
 use Rattle.examples.proofs.Laws.{each}
 
 pub envelope-rows : EachHolds m11
-unfolding openCheck contentCheck chunksCheck chunkCheck decodedCheck modeCheck hashCheck envelopeKeyCheck keyed contentBy opening sizesCheck emptyCheck headerRight magicRight chunkAt encodedSize headerLength chunkCount headerOf ascii filled after refusedIf first firstFrom addends shifts mixed wordNumber turned step steps word wordsOf sum block blocks littleBytes padding initial digestOf md5 bigAt sameBytes partsFrom
+unfolding openCheck contentCheck chunksCheck chunkCheck decodedCheck modeCheck hashCheck envelopeKeyCheck keyed contentBy opening
+    sizesCheck emptyCheck headerRight magicRight chunkAt encodedSize headerLength chunkCount headerOf ascii filled after refusedIf
+    first firstFrom addends shifts mixed wordNumber turned step steps word wordsOf sum block blocks littleBytes padding initial
+    digestOf md5 bigAt sameBytes partsFrom
 envelope-rows = each m11 (refl, (refl, (refl, tt)))

@@ -18,7 +18,11 @@ use Rattle.examples.specs.Examples.{EachHolds, m1, m2, m3, m4}
 use Rattle.examples.proofs.Laws.{each}
 
 pub index-rows : EachHolds m1 × EachHolds m2 × EachHolds m3 × EachHolds m4
-unfolding writeCheck inputCheck settingsRight listOrderCheck keyIn layoutFor listCount listEntrySize lookupOf keyCheck endOutcome ended endedFrom endedOn endedAt pageHalved slotHalved storedIn halve halving halvedOnce opening footerCheck fieldsCheckWith fieldCheck footerHashCheck sizeAt locationAt layoutFrom pagesFor entrySize full placedOn onPage entryAt lastKeyAt indexLength compared decided addends shifts mixed wordNumber turned step steps word wordsOf sum block blocks littleBytes padding initial digestOf md5 after refusedIf first firstFrom bigAt littleAt within sameBytes partsFrom
+unfolding writeCheck inputCheck settingsRight listOrderCheck keyIn layoutFor listCount listEntrySize lookupOf keyCheck endOutcome
+    ended endedFrom endedOn endedAt pageHalved slotHalved storedIn halve halving halvedOnce opening footerCheck fieldsCheckWith
+    fieldCheck footerHashCheck sizeAt locationAt layoutFrom pagesFor entrySize full placedOn onPage entryAt lastKeyAt indexLength
+    compared decided addends shifts mixed wordNumber turned step steps word wordsOf sum block blocks littleBytes padding initial
+    digestOf md5 after refusedIf first firstFrom bigAt littleAt within sameBytes partsFrom
 index-rows = (
   each m1 (refl, (refl, (refl, (refl, (refl, tt))))),
   each m2 (refl, tt),

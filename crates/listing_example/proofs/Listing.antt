@@ -19,13 +19,17 @@ use Rattle.listing_printed.specs.Printed.{hasPlace, placeText, refusalLine, pri
 
 -- both indexes pass the full check, their hashes with it
 passes : (listingCheck one ≡ silent) × (listingCheck none ≡ silent)
-unfolding listingCheck fullCheck opening footerCheck fieldsCheckWith fieldCheck footerHashCheck pagesCheck pageCheck pageHashCheck paddingCheck keyBefore notAbove orderCheck lastKeyCheck refusedIf first firstFrom sameBytes allZero compared decided layoutFrom pagesFor entrySize full placedOn onPage entryAt lastKeyAt pageHashAt indexLength littleAt bigAt within addends shifts mixed wordNumber turned step steps word wordsOf sum block blocks littleBytes padding initial digestOf md5
+unfolding listingCheck fullCheck opening footerCheck fieldsCheckWith fieldCheck footerHashCheck pagesCheck pageCheck pageHashCheck
+    paddingCheck keyBefore notAbove orderCheck lastKeyCheck refusedIf first firstFrom sameBytes allZero compared decided
+    layoutFrom pagesFor entrySize full placedOn onPage entryAt lastKeyAt pageHashAt indexLength littleAt bigAt within addends
+    shifts mixed wordNumber turned step steps word wordsOf sum block blocks littleBytes padding initial digestOf md5
 passes = (refl, refl)
 
 -- their texts
 texts : (textOf one ≡ ascii "index key=1 offset=4 entries=1 pages=1\n05 7 - 9\n")
     × (textOf none ≡ ascii "index key=1 offset=4 entries=0 pages=0\n")
-unfolding textBy header pagesText pageText line entryLine locationText ascii decimalDigits hex partsFrom layoutFrom pagesFor entrySize full placedOn onPage entryAt sizeAt locationAt littleAt bigAt
+unfolding textBy header pagesText pageText line entryLine locationText ascii decimalDigits hex partsFrom layoutFrom pagesFor
+    entrySize full placedOn onPage entryAt sizeAt locationAt littleAt bigAt
 texts = (refl, refl)
 
 pub listing : Listing

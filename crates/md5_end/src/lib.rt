@@ -71,7 +71,8 @@ pub fn last_words(first: u8, count: u64) -> [u32; 16]
 
 // The words after a block in which the length has no room, and the block of the length.
 fn last_two(w: Words, t: &[u8; 64], count: u64, k: &[u32; 64]) -> Words
-    ensures { λ r. ⌜ r ≡ block (now (k .entry)) (wordsOf 16 (replicate 56 0 ++ spec.littleBytes 8 (count * 8))) (block (now (k .entry)) (wordsOf 16 (now (t .entry))) w) ⌝ }
+    ensures { λ r. ⌜ r
+        ≡ block (now (k .entry)) (wordsOf 16 (replicate 56 0 ++ spec.littleBytes 8 (count * 8))) (block (now (k .entry)) (wordsOf 16 (now (t .entry))) w) ⌝ }
 {
     let x = block_words(t);
     let e = block(w, &x, k);

@@ -8,9 +8,6 @@ use Rattle.index_entry.specs.Entry.{archiveWidth, archiveIn}
 use Rattle.index_entry.proofs.archive_in.Statement.{statement}
 use Rattle.index_entry.proofs.archive_in.Tie as tie
 
-archive-requires : tie.Need-archive-requires
-archive-requires c κs = search needs
-
 returns : tie.Need-returns
 unfolding archiveIn
 returns c =
@@ -24,4 +21,4 @@ returns-2 c =
     sym (ap (λ b. cond b (archiveOf (a .location)) 0) (ne-eqb (a .width) archiveWidth (c .if1 .left)))
 
 pub archive-in-spec : {M : Type 1} → statement M
-archive-in-spec = tie.close (tie.spec archive-requires returns returns-2)
+archive-in-spec = tie.close (tie.spec (λ c κs. search needs) returns returns-2)

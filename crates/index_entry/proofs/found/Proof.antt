@@ -6,21 +6,6 @@ use Rattle.index_entry.specs.Entry.{archiveIn, offsetIn, valuesAt, value
 use Rattle.index_entry.proofs.found.Statement.{statement}
 use Rattle.index_entry.proofs.found.Tie as tie
 
-location-at-requires : tie.Need-location-at-requires
-location-at-requires c κs = search needs
-
-entry-at-requires : tie.Need-entry-at-requires
-entry-at-requires c κs = search needs
-
-size-at-requires : tie.Need-size-at-requires
-size-at-requires c κs = search needs
-
-archive-in-requires : tie.Need-archive-in-requires
-archive-in-requires c κs = search needs
-
-offset-in-requires : tie.Need-offset-in-requires
-offset-in-requires c κs = search needs
-
 returns : tie.Need-returns
 unfolding values valuesAt
 returns c =
@@ -35,9 +20,9 @@ pub found-spec : {M : Type 1} → statement M
 found-spec =
     tie.close
     (tie.spec
-    location-at-requires
-    entry-at-requires
-    size-at-requires
-    archive-in-requires
-    offset-in-requires
+    (λ c κs. search needs)
+    (λ c κs. search needs)
+    (λ c κs. search needs)
+    (λ c κs. search needs)
+    (λ c κs. search needs)
     returns)

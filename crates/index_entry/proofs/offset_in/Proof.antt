@@ -8,12 +8,6 @@ use Rattle.index_entry.specs.Entry.{archiveWidth, offsetIn}
 use Rattle.index_entry.proofs.offset_in.Statement.{statement}
 use Rattle.index_entry.proofs.offset_in.Tie as tie
 
-offset-requires : tie.Need-offset-requires
-offset-requires c κs = search needs
-
-cast-result : tie.Need-cast-result
-cast-result c = search needs
-
 returns : tie.Need-returns
 unfolding offsetIn
 returns c =
@@ -27,4 +21,4 @@ returns-2 c =
     sym (ap (λ b. cond b (offsetOf (a .location)) (a .location)) (ne-eqb (a .width) archiveWidth (c .if1 .left)))
 
 pub offset-in-spec : {M : Type 1} → statement M
-offset-in-spec = tie.close (tie.spec offset-requires cast-result returns returns-2)
+offset-in-spec = tie.close (tie.spec (λ c κs. search needs) (λ c. search needs) returns returns-2)

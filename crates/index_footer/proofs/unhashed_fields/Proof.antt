@@ -6,21 +6,9 @@ use borrow.Author.Needs.{needs}
 use Rattle.index_footer.proofs.unhashed_fields.Statement.{statement}
 use Rattle.index_footer.proofs.unhashed_fields.Tie as tie
 
-cast-a : tie.Need-cast-a
-cast-a c = search needs
-
-cast-b : tie.Need-cast-b
-cast-b c = search needs
-
-cast-c : tie.Need-cast-c
-cast-c c = search needs
-
-cast-d : tie.Need-cast-d
-cast-d c = search needs
-
 returns : tie.Need-returns
 unfolding fields littleBytes
 returns c = refl
 
 pub unhashed-fields-spec : {M : Type 1} → statement M
-unhashed-fields-spec = tie.close (tie.spec cast-a cast-b cast-c cast-d returns)
+unhashed-fields-spec = tie.close (tie.spec (λ c. search needs) (λ c. search needs) (λ c. search needs) (λ c. search needs) returns)

@@ -9,12 +9,6 @@ use Rattle.index_list_entry.specs.Put.{offsetBytes, locationRight}
 use Rattle.index_list_entry.proofs.location_right.Statement.{statement}
 use Rattle.index_list_entry.proofs.location_right.Tie as tie
 
-most-archive-requires : tie.Need-most-archive-requires
-most-archive-requires c κs = search needs
-
-offset-limit-requires : tie.Need-offset-limit-requires
-offset-limit-requires c κs = search needs
-
 returns : tie.Need-returns
 unfolding locationRight
 returns c =
@@ -31,4 +25,4 @@ returns-2 c =
 
 pub location-right-spec : {M : Type 1} → statement M
 location-right-spec =
-    tie.close (tie.spec most-archive-requires offset-limit-requires returns returns-2)
+    tie.close (tie.spec (λ c κs. search needs) (λ c κs. search needs) returns returns-2)

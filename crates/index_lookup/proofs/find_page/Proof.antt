@@ -4,18 +4,6 @@ use borrow.Author.Needs.{needs}
 use Rattle.index_lookup.proofs.find_page.Statement.{statement}
 use Rattle.index_lookup.proofs.find_page.Tie as tie
 
-last-key-at-requires : tie.Need-last-key-at-requires
-last-key-at-requires c κs = search needs
-
-part-requires : tie.Need-part-requires
-part-requires c κs = search needs
-
-cast-halve : tie.Need-cast-halve
-cast-halve c = search needs
-
-halve-requires : tie.Need-halve-requires
-halve-requires c κs = search needs
-
 returns : tie.Need-returns
 returns c =
     let start = c .before .before .before .before .before .before in
@@ -26,4 +14,4 @@ returns c =
 
 pub find-page-spec : {M : Type 1} → statement M
 find-page-spec =
-    tie.close (tie.spec last-key-at-requires part-requires cast-halve halve-requires returns)
+    tie.close (tie.spec (λ c κs. search needs) (λ c κs. search needs) (λ c. search needs) (λ c κs. search needs) returns)

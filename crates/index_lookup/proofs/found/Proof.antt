@@ -8,12 +8,6 @@ use borrow.Author.Needs.{needs}
 use Rattle.index_lookup.proofs.found.Statement.{statement}
 use Rattle.index_lookup.proofs.found.Tie as tie
 
-size-at-requires : tie.Need-size-at-requires
-size-at-requires c κs = search needs
-
-location-at-requires : tie.Need-location-at-requires
-location-at-requires c κs = search needs
-
 returns : tie.Need-returns
 unfolding outcome
 returns c =
@@ -23,4 +17,4 @@ returns c =
     (c .before .size-at .ensures) (location-is _ (a .l) _ _ _ (start .pre) (c .location-at .ensures))
 
 pub found-spec : {M : Type 1} → statement M
-found-spec = tie.close (tie.spec size-at-requires location-at-requires returns)
+found-spec = tie.close (tie.spec (λ c κs. search needs) (λ c κs. search needs) returns)

@@ -8,18 +8,6 @@ use borrow.Author.Needs.{needs}
 use Rattle.index_open.proofs.footer.Statement.{statement}
 use Rattle.index_open.proofs.footer.Tie as tie
 
-sub-at : tie.Need-sub-at
-sub-at c = search needs
-
-sub-result : tie.Need-sub-result
-sub-result c = search needs
-
-part-result-start : tie.Need-part-result-start
-part-result-start c = search needs
-
-part-result-end : tie.Need-part-result-end
-part-result-end c = search needs
-
 returns : tie.Need-returns
 returns c =
     let s = c .before .args .index .now in
@@ -27,4 +15,4 @@ returns c =
     (rest, ap length rest ∙ length-drop (length s - 28) s ∙ omega arith)
 
 pub footer-spec : {M : Type 1} → statement M
-footer-spec = tie.close (tie.spec sub-at sub-result part-result-start part-result-end returns)
+footer-spec = tie.close (tie.spec (λ c. search needs) (λ c. search needs) (λ c. search needs) (λ c. search needs) returns)

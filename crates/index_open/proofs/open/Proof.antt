@@ -10,18 +10,6 @@ use borrow.Author.Needs.{needs}
 use Rattle.index_open.proofs.open.Statement.{statement}
 use Rattle.index_open.proofs.open.Tie as tie
 
-read-footer-requires : tie.Need-read-footer-requires
-read-footer-requires c κs = search needs
-
-enum-known-r : tie.Need-enum-known-r
-enum-known-r c = search needs
-
-enum-known-layout : tie.Need-enum-known-layout
-enum-known-layout c = search needs
-
-length-requires : tie.Need-length-requires
-length-requires c κs = search needs
-
 returns : tie.Need-returns
 unfolding outcome
 returns c =
@@ -51,10 +39,10 @@ pub open-spec : {M : Type 1} → statement M
 open-spec =
     tie.close
     (tie.spec
-    read-footer-requires
-    enum-known-r
-    enum-known-layout
-    length-requires
+    (λ c κs. search needs)
+    (λ c. search needs)
+    (λ c. search needs)
+    (λ c κs. search needs)
     returns
     returns-2
     returns-3)

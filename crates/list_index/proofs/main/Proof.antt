@@ -15,27 +15,6 @@ inside : (text out last : List ℕ) (n : ℕ) → n ≡ length text → last ≡
 unfolding filled
 inside text out last n e f = omega (arith, ap length f, length-append text (drop (length text) out))
 
-input-room-requires : tie.Need-input-room-requires
-input-room-requires c κs = search needs
-
-slice-aggregate-read-full : tie.Need-slice-aggregate-read-full
-slice-aggregate-read-full c = search needs
-
-read-full-requires : tie.Need-read-full-requires
-read-full-requires c κs = search needs
-
-output-room-requires : tie.Need-output-room-requires
-output-room-requires c κs = search needs
-
-array-share-prefix-input : tie.Need-array-share-prefix-input
-array-share-prefix-input c = search needs
-
-slice-aggregate-print : tie.Need-slice-aggregate-print
-slice-aggregate-print c = search needs
-
-print-requires : tie.Need-print-requires
-print-requires c κs = search needs
-
 array-share-prefix-output : tie.Need-array-share-prefix-output
 array-share-prefix-output c = inside _ _ _ _ (c .print .ensures .0) (c .print .ensures .1)
 
@@ -44,24 +23,18 @@ slice-aggregate-write-all c =
     let l = c .before .print in
     sym (length-take-le (l .result) (l .last .1 .0) (inside _ _ _ _ (l .ensures .0) (l .ensures .1)))
 
-write-all-requires : tie.Need-write-all-requires
-write-all-requires c κs = search needs
-
-returns : tie.Need-returns
-returns c = search needs
-
 pub main-spec : {M : Type 1} → statement M
 main-spec =
     tie.close
     (tie.spec
-    input-room-requires
-    slice-aggregate-read-full
-    read-full-requires
-    output-room-requires
-    array-share-prefix-input
-    slice-aggregate-print
-    print-requires
+    (λ c κs. search needs)
+    (λ c. search needs)
+    (λ c κs. search needs)
+    (λ c κs. search needs)
+    (λ c. search needs)
+    (λ c. search needs)
+    (λ c κs. search needs)
     array-share-prefix-output
     slice-aggregate-write-all
-    write-all-requires
-    returns)
+    (λ c κs. search needs)
+    (λ c. search needs))

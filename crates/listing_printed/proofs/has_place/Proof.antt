@@ -31,19 +31,22 @@ in-two : (c : tie.Joined1) → c .if1 .if2 ≡ two (c .before .before .args .num
 unfolding two
 in-two c =
     let e = c .before .within .ensures in
-    ⊎-elim {C = c .if1 .if2 ≡ two (c .before .before .args .number)} (λ w. or-first _ _ _ _ (w .0 .taken) (w .1) e) (λ w. or-second _ _ _ _ _ (w .0 .left) (w .2) e (w .1 .ensures)) (c .if1 .came)
+    ⊎-elim {C = c .if1 .if2 ≡ two (c .before .before .args .number)}
+    (λ w. or-first _ _ _ _ (w .0 .taken) (w .1) e) (λ w. or-second _ _ _ _ _ (w .0 .left) (w .2) e (w .1 .ensures)) (c .if1 .came)
 
 in-three : (c : tie.Joined2) → c .if2 .if3 ≡ three (c .before .before .before .args .number)
 unfolding three
 in-three c =
     let e = in-two (c .before) in
-    ⊎-elim {C = c .if2 .if3 ≡ three (c .before .before .before .args .number)} (λ w. or-first _ _ _ _ (w .0 .taken) (w .1) e) (λ w. or-second _ _ _ _ _ (w .0 .left) (w .2) e (w .1 .ensures)) (c .if2 .came)
+    ⊎-elim {C = c .if2 .if3 ≡ three (c .before .before .before .args .number)}
+    (λ w. or-first _ _ _ _ (w .0 .taken) (w .1) e) (λ w. or-second _ _ _ _ _ (w .0 .left) (w .2) e (w .1 .ensures)) (c .if2 .came)
 
 in-four : (c : tie.Joined3) → c .if3 .if4 ≡ four (c .before .before .before .before .args .number)
 unfolding four
 in-four c =
     let e = in-three (c .before) in
-    ⊎-elim {C = c .if3 .if4 ≡ four (c .before .before .before .before .args .number)} (λ w. or-first _ _ _ _ (w .0 .taken) (w .1) e) (λ w. or-second _ _ _ _ _ (w .0 .left) (w .2) e (w .1 .ensures)) (c .if3 .came)
+    ⊎-elim {C = c .if3 .if4 ≡ four (c .before .before .before .before .args .number)}
+    (λ w. or-first _ _ _ _ (w .0 .taken) (w .1) e) (λ w. or-second _ _ _ _ _ (w .0 .left) (w .2) e (w .1 .ensures)) (c .if3 .came)
 
 five : ℕ → Bool
 five n = four n || eqb n hex-digit
@@ -54,18 +57,6 @@ in-five c =
     let e = in-four (c .before) in
     ⊎-elim {C = c .if4 .if5 ≡ five (c .before .before .before .before .before .args .number)}
     (λ w. or-first _ _ _ _ (w .0 .taken) (w .1) e) (λ w. or-second _ _ _ _ _ (w .0 .left) (w .1) e refl) (c .if4 .came)
-
-within-requires : tie.Need-within-requires
-within-requires c κs = search needs
-
-within-requires-2 : tie.Need-within-requires-2
-within-requires-2 c κs = search needs
-
-within-requires-3 : tie.Need-within-requires-3
-within-requires-3 c κs = search needs
-
-within-requires-4 : tie.Need-within-requires-4
-within-requires-4 c κs = search needs
 
 returns : tie.Need-returns
 unfolding hasPlace five four three two
@@ -79,9 +70,9 @@ pub has-place-spec : {M : Type 1} → statement M
 has-place-spec =
     tie.close
     (tie.spec
-    within-requires
-    within-requires-2
-    within-requires-3
-    within-requires-4
+    (λ c κs. search needs)
+    (λ c κs. search needs)
+    (λ c κs. search needs)
+    (λ c κs. search needs)
     returns
     returns-2)

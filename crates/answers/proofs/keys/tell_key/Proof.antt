@@ -33,7 +33,8 @@ returns-2 c =
     let room : length key ≡ 16 = search needs in
     let size : length (a .read .bytes) ≡ 16 = search needs in (
       crosses-as (sym (ap (λ v. after (checkOf v) (answered (a .length ∷ []))) told)) (record { result-is = refl; words-are = refl }),
-      rw told (c .before .copy .ensures ∙ ap (overlay key 0) (passed .part .ensures .0) ∙ overlay-inside key 0 bytes (omega (arith, partAt-length (a .read .bytes) 0 (a .length))) ∙ rw zero-add),
+      rw told (c .before .copy .ensures ∙ ap (overlay key 0) (passed .part .ensures .0)
+          ∙ overlay-inside key 0 bytes (omega (arith, partAt-length (a .read .bytes) 0 (a .length))) ∙ rw zero-add),
     )
 
 pub tell-key-spec : {M : Type 1} → statement M

@@ -17,7 +17,8 @@ returns c =
     let t = c .tell-sixteen .ensures in
     let m = a .message .now in (
       crosses-as (ap verdictOutcome (d .ensures .0)) (t .0),
-      t .1 ∙ ap₂ (λ k b. lentAfter k b (a .digest .now)) (d .ensures .0) (d .ensures .1) ∙ digest-lent (tooLong (length m)) (replicate 16 0) (md5 m) (a .digest .now),
+      t .1 ∙ ap₂ (λ k b. lentAfter k b (a .digest .now)) (d .ensures .0) (d .ensures .1)
+          ∙ digest-lent (tooLong (length m)) (replicate 16 0) (md5 m) (a .digest .now),
     )
 
 pub dwarnizza-md5-spec : {M : Type 1} → statement M

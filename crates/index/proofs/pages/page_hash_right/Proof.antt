@@ -8,18 +8,6 @@ use borrow.Author.Needs.{needs}
 use Rattle.index.proofs.pages.page_hash_right.Statement.{statement}
 use Rattle.index.proofs.pages.page_hash_right.Tie as tie
 
-page-hash-at-requires : tie.Need-page-hash-at-requires
-page-hash-at-requires c κs = search needs
-
-cast-part : tie.Need-cast-part
-cast-part c = search needs
-
-part-requires : tie.Need-part-requires
-part-requires c κs = search needs
-
-equal-requires : tie.Need-equal-requires
-equal-requires c κs = search needs
-
 returns : tie.Need-returns
 unfolding pageHashCheck
 returns c =
@@ -29,4 +17,4 @@ returns c =
 
 pub page-hash-right-spec : {M : Type 1} → statement M
 page-hash-right-spec =
-    tie.close (tie.spec page-hash-at-requires cast-part part-requires equal-requires returns)
+    tie.close (tie.spec (λ c κs. search needs) (λ c. search needs) (λ c κs. search needs) (λ c κs. search needs) returns)

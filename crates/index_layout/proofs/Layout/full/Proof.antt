@@ -5,15 +5,9 @@ use borrow.Author.Needs.{needs}
 use Rattle.index_layout.proofs.Layout.full.Statement.{statement}
 use Rattle.index_layout.proofs.Layout.full.Tie as tie
 
-entry-size-requires : tie.Need-entry-size-requires
-entry-size-requires c κs = search needs
-
-div-result : tie.Need-div-result
-div-result c = search needs
-
 returns : tie.Need-returns
 unfolding full
 returns c = (rw (c .entry-size .ensures .0), per-page _ (c .entry-size .ensures .1 .0) (c .entry-size .ensures .1 .1))
 
 pub full-spec : {M : Type 1} → statement M
-full-spec = tie.close (tie.spec entry-size-requires div-result returns)
+full-spec = tie.close (tie.spec (λ c κs. search needs) (λ c. search needs) returns)

@@ -6,30 +6,15 @@ use borrow.Author.Needs.{needs}
 use Rattle.index_layout.proofs.Layout.location_at.Statement.{statement}
 use Rattle.index_layout.proofs.Layout.location_at.Tie as tie
 
-entry-at-requires : tie.Need-entry-at-requires
-entry-at-requires c κs = search needs
-
-cast-at : tie.Need-cast-at
-cast-at c = search needs
-
 add-at : tie.Need-add-at
 add-at c =
     let a = c .before .before .before .args in
     omega (arith, entry-fits (a .self) (a .page .0) (a .slot .0) _ (c .before .entry-at .ensures) (search needs) (search needs) (search needs) (search needs))
 
-cast-at-2 : tie.Need-cast-at-2
-cast-at-2 c = search needs
-
 add-at-2 : tie.Need-add-at-2
 add-at-2 c =
     let a = c .before .before .before .args in
     omega (arith, entry-fits (a .self) (a .page .0) (a .slot .0) _ (c .before .entry-at .ensures) (search needs) (search needs) (search needs) (search needs))
-
-cast-big : tie.Need-cast-big
-cast-big c = search needs
-
-big-requires : tie.Need-big-requires
-big-requires c κs = search needs
 
 returns : tie.Need-returns
 unfolding locationRead
@@ -38,4 +23,4 @@ returns c = rw (c .before .before .before .entry-at .ensures) at (c .big .ensure
 pub location-at-spec : {M : Type 1} → statement M
 location-at-spec =
     tie.close
-    (tie.spec entry-at-requires cast-at add-at cast-at-2 add-at-2 cast-big big-requires returns)
+    (tie.spec (λ c κs. search needs) (λ c. search needs) add-at (λ c. search needs) add-at-2 (λ c. search needs) (λ c κs. search needs) returns)

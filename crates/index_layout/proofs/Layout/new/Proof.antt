@@ -6,18 +6,6 @@ use borrow.Author.Needs.{needs}
 use Rattle.index_layout.proofs.Layout.new.Statement.{statement}
 use Rattle.index_layout.proofs.Layout.new.Tie as tie
 
-full-requires : tie.Need-full-requires
-full-requires c κs = search needs
-
-add-pages : tie.Need-add-pages
-add-pages c = search needs
-
-sub-pages : tie.Need-sub-pages
-sub-pages c = search needs
-
-div-pages : tie.Need-div-pages
-div-pages c = search needs
-
 cast-pages : tie.Need-cast-pages
 cast-pages c = omega (arith, pages-most (c .before .args .entries) (c .full .result) (omega arith))
 
@@ -29,9 +17,9 @@ pub new-spec : {M : Type 1} → statement M
 new-spec =
     tie.close
     (tie.spec
-    full-requires
-    add-pages
-    sub-pages
-    div-pages
+    (λ c κs. search needs)
+    (λ c. search needs)
+    (λ c. search needs)
+    (λ c. search needs)
     cast-pages
     returns)

@@ -5,17 +5,8 @@ use borrow.Author.Needs.{needs}
 use Rattle.index_layout.proofs.Layout.placed_number.Statement.{statement}
 use Rattle.index_layout.proofs.Layout.placed_number.Tie as tie
 
-cast-result : tie.Need-cast-result
-cast-result c = search needs
-
-full-requires : tie.Need-full-requires
-full-requires c κs = search needs
-
 mul-result : tie.Need-mul-result
 mul-result c = omega (arith, bound (c .before .before .args .page .0) (c .full .result) 4294967295 1024 (omega arith) (omega arith))
-
-cast-result-2 : tie.Need-cast-result-2
-cast-result-2 c = search needs
 
 add-result : tie.Need-add-result
 add-result c = omega (arith, bound (c .before .before .before .args .page .0) (c .before .full .result) 4294967295 1024 (omega arith) (omega arith))
@@ -25,4 +16,4 @@ returns c = rw (c .before .full .ensures .0)
 
 pub placed-number-spec : {M : Type 1} → statement M
 placed-number-spec =
-    tie.close (tie.spec cast-result full-requires mul-result cast-result-2 add-result returns)
+    tie.close (tie.spec (λ c. search needs) (λ c κs. search needs) mul-result (λ c. search needs) add-result returns)

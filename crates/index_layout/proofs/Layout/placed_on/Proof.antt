@@ -6,28 +6,13 @@ use borrow.Author.Needs.{needs}
 use Rattle.index_layout.proofs.Layout.placed_on.Statement.{statement}
 use Rattle.index_layout.proofs.Layout.placed_on.Tie as tie
 
-full-requires : tie.Need-full-requires
-full-requires c κs = search needs
-
-cast-before : tie.Need-cast-before
-cast-before c = search needs
-
 mul-before : tie.Need-mul-before
 mul-before c =
     omega (arith, bound (c .before .before .args .page .0) (c .before .full .result) 4294967295 1024 (omega arith) (omega arith))
 
-cast-entries : tie.Need-cast-entries
-cast-entries c = search needs
-
 returns : tie.Need-returns
 unfolding placedOn
 returns c = rw (← c .before .before .before .full .ensures .0) (omega arith)
-
-sub-if2 : tie.Need-sub-if2
-sub-if2 c = search needs
-
-sub-result : tie.Need-sub-result
-sub-result c = search needs
 
 returns-2 : tie.Need-returns-2
 unfolding placedOn
@@ -41,12 +26,12 @@ pub placed-on-spec : {M : Type 1} → statement M
 placed-on-spec =
     tie.close
     (tie.spec
-    full-requires
-    cast-before
+    (λ c κs. search needs)
+    (λ c. search needs)
     mul-before
-    cast-entries
+    (λ c. search needs)
     returns
-    sub-if2
-    sub-result
+    (λ c. search needs)
+    (λ c. search needs)
     returns-2
     returns-3)
