@@ -6,7 +6,7 @@ ghost use mathlib.Core.Path.{_≡_};
 ghost use Prim.Native.Nat.{min};
 ghost use Rattle.refusal.specs.Check.{checkOf};
 ghost use Rattle.refusal.specs.Outcome.{refusal, writtenOutcome};
-ghost use Rattle.crossing.specs.Crossing.{Crosses, CrossesBeside, verdictOutcome, testOutcome, lentAfter};
+ghost use Rattle.crossing.specs.Crossing.{Crosses, CrossesBeside, verdictOutcome, lentAfter};
 
 // A number that a byte does not hold becomes 255, which no setting may be.
 pub fn narrow(x: u32) -> u8
@@ -76,12 +76,4 @@ pub fn tell_sixteen(
             0
         }
     }
-}
-
-// Lays out the answer of a test that has no values to tell.
-pub fn tell_test(holds: bool, answer: &mut [u64; 8]) -> u32
-    ensures { λ r. ⌜ Crosses (testOutcome holds) r (now (answer .exit)) ⌝ }
-{
-    *answer = [0u64; 8];
-    if holds { 0 } else { 1 }
 }

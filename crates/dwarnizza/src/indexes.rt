@@ -7,7 +7,6 @@ use answers::indexes::tell_layout;
 use answers::indexes::tell_lookup;
 use answers::indexes::tell_page;
 use crossing::tell_bytes;
-use crossing::tell_test;
 ghost use mathlib.Core.Path.{_≡_};
 ghost use lib.ListN.{length};
 ghost use Rattle.refusal.specs.Output.{filled};
@@ -68,7 +67,8 @@ pub extern "C" fn dwarnizza_index_footer(index: &[u8], answer: &mut [u64; 8]) ->
 pub extern "C" fn dwarnizza_index_loose(index: &[u8], answer: &mut [u64; 8]) -> u32
     ensures { λ r. ⌜ Crosses (testOutcome (isLoose (now (index .entry)))) r (now (answer .exit)) ⌝ }
 {
-    tell_test(index_open::is_loose(index), answer)
+    *answer = [0u64; 8];
+    if index_open::is_loose(index) { 0 } else { 1 }
 }
 
 // A page: place and length of the page, of its last key and of its hash, its first entry, and how many it has.
