@@ -1,5 +1,5 @@
 // MD5.
-use crossing::tell_verdict;
+use crossing::refused;
 use md5::Updated;
 use refusal::Verdict;
 ghost use mathlib.Core.Path.{_≡_};
@@ -22,13 +22,16 @@ pub fn tell_state(
 {
     let verdict = updated.verdict;
     let after = updated.state;
-    if let Verdict::Passed = verdict {
-        let w = after.words;
-        let bytes = after.pending;
-        *words = [w.a, w.b, w.c, w.d];
-        *pending = bytes;
-        *count = after.count;
-        return tell_verdict(verdict, answer);
+    match verdict {
+        Verdict::Refused(r) => refused(r, answer),
+        Verdict::Passed => {
+            let w = after.words;
+            let bytes = after.pending;
+            *words = [w.a, w.b, w.c, w.d];
+            *pending = bytes;
+            *count = after.count;
+            *answer = [0u64; 8];
+            0
+        }
     }
-    tell_verdict(verdict, answer)
 }
