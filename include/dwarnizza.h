@@ -13,7 +13,8 @@
  * name is 0. A refusal names three:
  *
  *     answer[0]  the number of the refusal, which says what was wrong
- *     answer[1]  its place: the page, entry, chunk, .. (0 where none is named)
+ *     answer[1]  its place: the page, entry, footer byte, .. (0 where none is
+ *                named)
  *     answer[2]  the link of the chain that refused: 1 root, 2 encoding,
  *                3 index (0 outside a chain)
  *
@@ -62,7 +63,6 @@ enum {
  */
 #define DWARNIZZA_REFUSALS(X) \
     X(DWARNIZZA_INDEX_SHORT, 1, "index under 28 bytes", "") \
-    X(DWARNIZZA_FOOTER_FIELD, 2, "a footer field outside its list", "") \
     X(DWARNIZZA_FOOTER_HASH, 3, "footer hash wrong", "") \
     X(DWARNIZZA_ENTRY_COUNT, 4, "more than 8,388,608 entries", "") \
     X(DWARNIZZA_INDEX_LENGTH, 5, "file length wrong", "") \
@@ -101,6 +101,13 @@ enum {
     X(DWARNIZZA_KEY_TEXT_LENGTH, 60, "key text not two characters for each byte of the key", "") \
     X(DWARNIZZA_HEX_DIGIT, 61, "not a hex digit", "digit") \
     X(DWARNIZZA_LISTING_INPUT, 70, "listing input above 65,536 bytes", "") \
+    X(DWARNIZZA_FOOTER_VERSION, 102, "footer version wrong", "footer byte") \
+    X(DWARNIZZA_FOOTER_RESERVED, 103, "reserved footer byte not zero", "footer byte") \
+    X(DWARNIZZA_FOOTER_PAGE_SIZE, 104, "footer page size wrong", "footer byte") \
+    X(DWARNIZZA_FOOTER_OFFSET_WIDTH, 105, "footer offset width wrong", "footer byte") \
+    X(DWARNIZZA_FOOTER_SIZE_WIDTH, 106, "footer size width wrong", "footer byte") \
+    X(DWARNIZZA_FOOTER_KEY_LENGTH, 107, "footer key length wrong", "footer byte") \
+    X(DWARNIZZA_FOOTER_HASH_LENGTH, 108, "footer hash length wrong", "footer byte") \
     X(DWARNIZZA_LIST_FALLS, 161, "list falls", "id")
 
 enum {
@@ -203,7 +210,12 @@ uint32_t dwarnizza_md5_finish(const uint32_t words[4], const uint8_t pending[64]
  * The full check refuses with the first that holds, in this order:
  *
  *     the opening checks:
- *     1, 2, 3, 4   the file is too short, or its footer is wrong
+ *     1            the file is under 28 bytes
+ *     102 to 108   a field of the footer is wrong, the first one: version,
+ *                  reserved, page size, offset width, size width, key length,
+ *                  hash length; the place is the byte's offset in the footer,
+ *                  8 to 15
+ *     3, 4         the footer's hash is wrong, n is above 8,388,608
  *     5            its length is not the one that follows from the footer
  *     page by page:
  *     6, 7         the page's hash is wrong, its padding is not zero
@@ -261,8 +273,8 @@ uint32_t dwarnizza_index_footer(const uint8_t *index, size_t index_len,
  * Whether the last 28 bytes are the footer of an index of loose files or of
  * patches, which is no archive index: the offset width is 0, the other fields
  * from version to hash length are such as an archive index has, and the footer
- * hash is right. n and the rest of the file are not judged. The full check
- * refuses such a file with 2.
+ * hash is right. n and the rest of the file are not judged. Calls that make the
+ * opening checks refuse such a file with 105 at 12.
  * Answered: they are; no word of the answer is named.
  * Absent: they are not, or there are fewer than 28; no word of the answer is
  * named.

@@ -1,4 +1,4 @@
--- Laws of the checks 1 to 5.
+-- Laws of the opening checks.
 use mathlib.Core.Path.{_≡_, refl, sym, ap, ap₂, _∙_}
 use mathlib.Core.Bool.{Bool, true, false, not, cond}
 use mathlib.Core.List.{List, _++_}
@@ -94,7 +94,7 @@ pub refused-index : (k : Check) (m : Layout) (v : Checked) {r : Refusal} → out
 unfolding outcome
 refused-index k m v {r} e g = refusal-after k (r .number) (r .place) (layoutValues m) (sym (ap outcome g) ∙ e)
 
--- 5, where 1 to 4 pass
+-- 5, where the checks before it pass
 module _ (s : List ℕ) (l : Layout) (n : ℕ) (reading : footerReading s ≡ silent) (e : l ≡ layoutOf s) (told : n ≡ indexLength l) where
   length-is : eqb (length s) n ≡ eqb (length s) (indexLength (layoutOf s))
   length-is = ap (eqb (length s)) (told ∙ ap indexLength e)

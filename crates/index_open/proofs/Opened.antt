@@ -1,4 +1,4 @@
--- What an index that passes 1 to 5 is known to be: its fields in range, its length right, its pages and their entries inside it.
+-- What an index that passes the opening checks is known to be: its fields in range, its length right, its pages and their entries inside it.
 use mathlib.Core.Path.{_≡_, refl, sym, ap, ap₂, subst, _∙_}
 use mathlib.Core.Bool.{not}
 use mathlib.Core.List.{List}
@@ -14,11 +14,10 @@ use borrow.Author.Tests.{ltb-false, eqb-true, not-false}
 use Rattle.parts.specs.Part.{byteAt, partsFrom}
 use Rattle.parts.proofs.Laws.{partAt-inside}
 use Rattle.refusal.specs.Check.{silent, first}
-use Rattle.refusal.specs.Number.{index-short, footer-field, index-length}
+use Rattle.refusal.specs.Number.{index-short, index-length}
 use Rattle.refusal.proofs.Laws.{silent-test, first-left, first-right}
 use Rattle.index_layout.specs.declared.Layout.{Layout}
-use Rattle.index_layout.specs.Layout.{pageSize, footerSize, hashLength, versionAt, reservedAt, pageKbAt, offsetWidthAt, sizeWidthAt}
-use Rattle.index_layout.specs.Layout.{keyLengthAt, leastVersion, mostVersion, pageKb, leastOffsetWidth, mostOffsetWidth, sizeWidth}
+use Rattle.index_layout.specs.Layout.{pageSize, footerSize, hashLength, offsetWidthAt, keyLengthAt, leastOffsetWidth, mostOffsetWidth}
 use Rattle.index_layout.specs.Layout.{leastKeyLength, mostKeyLength, mostEntries, countCheck, footer, entryCount, keyLength, offsetWidth}
 use Rattle.index_layout.specs.Layout.{entrySize, full, pagesFor, placedOn, onPage, pageAt, indexLength, layoutFrom, layoutOf}
 use Rattle.index_open.specs.Open.{shortCheck, fieldCheck, fieldsCheckWith, fieldsCheck, footerHashCheck, footerCheck, footerReading, lengthCheck, opening}
@@ -35,25 +34,23 @@ pub record Opened (s : List ℕ) : Type 0 where
   pub count : entryCount (footer s) ≤ mostEntries
   pub long : footerSize ≤ length s
 
-pub field-range : (f : List ℕ) (at low high : ℕ) → fieldCheck f at low high ≡ silent → (low ≤ byteAt f at) × (byteAt f at ≤ high)
+pub field-range : (f : List ℕ) (at low high number : ℕ) → fieldCheck f at low high number ≡ silent → (low ≤ byteAt f at) × (byteAt f at ≤ high)
 unfolding fieldCheck
-field-range f at low high e =
-    within-range low high (byteAt f at) (not-false _ (silent-test (not (within (byteAt f at) low high)) footer-field 0 e))
+field-range f at low high number e =
+    within-range low high (byteAt f at) (not-false _ (silent-test (not (within (byteAt f at) low high)) number at e))
 
 -- the offset width is the fifth field, the key length the seventh
 fields-range : (f : List ℕ) → fieldsCheck f ≡ silent
     → ((leastOffsetWidth ≤ offsetWidth f) × (offsetWidth f ≤ mostOffsetWidth)) × ((leastKeyLength ≤ keyLength f) × (keyLength f ≤ mostKeyLength))
 unfolding fieldsCheckWith
 fields-range f e =
-    let a = first-right (fieldCheck f versionAt leastVersion mostVersion) _ e in
-    let b = first-right (fieldCheck f reservedAt 0 0) _ a in
-    let c = first-right (fieldCheck f (reservedAt + 1) 0 0) _ b in
-    let d = first-right (fieldCheck f pageKbAt pageKb pageKb) _ c in
-    let g = first-right (fieldCheck f offsetWidthAt leastOffsetWidth mostOffsetWidth) _ d in
-    let h = first-right (fieldCheck f sizeWidthAt sizeWidth sizeWidth) _ g in (
-      field-range f offsetWidthAt leastOffsetWidth mostOffsetWidth (first-left (fieldCheck f offsetWidthAt leastOffsetWidth mostOffsetWidth) _ d),
-      field-range f keyLengthAt leastKeyLength mostKeyLength (first-left (fieldCheck f keyLengthAt leastKeyLength mostKeyLength) _ h),
-    )
+    let a = first-right _ _ e in
+    let b = first-right _ _ a in
+    let c = first-right _ _ b in
+    let d = first-right _ _ c in
+    let g = first-right _ _ d in
+    let h = first-right _ _ g in
+    (field-range f offsetWidthAt _ _ _ (first-left _ _ d), field-range f keyLengthAt _ _ _ (first-left _ _ h))
 
 pub opened : (s : List ℕ) → opening s ≡ silent → Opened s
 unfolding opening footerCheck

@@ -9,7 +9,8 @@ use Rattle.numbers.specs.Number.{within}
 use Rattle.md5.specs.Message.{md5}
 use Rattle.refusal.specs.Check.{Check, silent, refused, refusedIf, first}
 use Rattle.refusal.specs.Outcome.{Outcome, answered, refusal, after}
-use Rattle.refusal.specs.Number.{index-short, footer-field, footer-hash, index-length}
+use Rattle.refusal.specs.Number.{index-short, footer-version, footer-reserved, footer-page-size, footer-offset-width, footer-size-width}
+use Rattle.refusal.specs.Number.{footer-key-length, footer-hash-length, footer-hash, index-length}
 use Rattle.index_layout.specs.declared.Layout.{Layout}
 use Rattle.index_layout.specs.Layout.{footerSize, versionAt, reservedAt, pageKbAt, offsetWidthAt, sizeWidthAt, keyLengthAt, hashLengthAt}
 use Rattle.index_layout.specs.Layout.{footerHashAt, leastVersion, mostVersion, pageKb, leastOffsetWidth, mostOffsetWidth, sizeWidth}
@@ -21,22 +22,22 @@ use Rattle.index_open.specs.declared.Checked.the-variants.{Passed, Refus
 abbrev pub shortCheck : List ℕ → Check
 shortCheck s = refusedIf (ltb (length s) footerSize) index-short 0
 
--- 2: the footer byte at an offset is not one of those from low to high (rule I16).
-unfoldable pub fieldCheck : List ℕ → (at low high : ℕ) → Check
-fieldCheck f at low high = refusedIf (not (within (byteAt f at) low high)) footer-field 0
+-- The number of a field, at its offset: the footer byte there is not one of those from low to high (rule I16).
+unfoldable pub fieldCheck : List ℕ → (at low high number : ℕ) → Check
+fieldCheck f at low high number = refusedIf (not (within (byteAt f at) low high)) number at
 
--- Version, the two reserved bytes, page KB, offset width from low to high, size width, key length and hash length, in order
--- (rule I2).
+-- 102 to 108: version, the two reserved bytes, page KB, offset width from low to high, size width, key length and hash length,
+-- in order (rules I2, I16).
 unfoldable pub fieldsCheckWith : List ℕ → (low high : ℕ) → Check
 fieldsCheckWith f low high =
-    first (fieldCheck f versionAt leastVersion mostVersion)
-    (first (fieldCheck f reservedAt 0 0)
-    (first (fieldCheck f (reservedAt + 1) 0 0)
-    (first (fieldCheck f pageKbAt pageKb pageKb)
-    (first (fieldCheck f offsetWidthAt low high)
-    (first (fieldCheck f sizeWidthAt sizeWidth sizeWidth)
-    (first (fieldCheck f keyLengthAt leastKeyLength mostKeyLength)
-    (fieldCheck f hashLengthAt hashLength hashLength)))))))
+    first (fieldCheck f versionAt leastVersion mostVersion footer-version)
+    (first (fieldCheck f reservedAt 0 0 footer-reserved)
+    (first (fieldCheck f (reservedAt + 1) 0 0 footer-reserved)
+    (first (fieldCheck f pageKbAt pageKb pageKb footer-page-size)
+    (first (fieldCheck f offsetWidthAt low high footer-offset-width)
+    (first (fieldCheck f sizeWidthAt sizeWidth sizeWidth footer-size-width)
+    (first (fieldCheck f keyLengthAt leastKeyLength mostKeyLength footer-key-length)
+    (fieldCheck f hashLengthAt hashLength hashLength footer-hash-length)))))))
 
 -- The fields of an archive index: W is 4 to 6 (rule I2).
 abbrev pub fieldsCheck : List ℕ → Check
@@ -49,11 +50,11 @@ hashedFooter f = partAt f versionAt (footerHashAt - versionAt) ++ replicate hash
 unfoldable pub footerHashCheck : List ℕ → Check
 footerHashCheck f = refusedIf (not (sameBytes (take hashLength (md5 (hashedFooter f))) (footerHash f))) footer-hash 0
 
--- 2 to 4.
+-- 102 to 108, 3 and 4.
 unfoldable pub footerCheck : List ℕ → Check
 footerCheck f = first (fieldsCheck f) (first (footerHashCheck f) (countCheck (entryCount f)))
 
--- 1 to 4, in this order: the last 28 bytes are enough (rules I16, I29).
+-- 1, 102 to 108, 3 and 4, in this order: the last 28 bytes are enough (rules I16, I29).
 abbrev pub footerReading : List ℕ → Check
 footerReading s = first (shortCheck s) (footerCheck (footer s))
 

@@ -27,8 +27,14 @@ use parts::copy;
 use parts::equal;
 use parts::part;
 use refusal::ENTRY_COUNT;
-use refusal::FOOTER_FIELD;
 use refusal::FOOTER_HASH;
+use refusal::FOOTER_HASH_LENGTH;
+use refusal::FOOTER_KEY_LENGTH;
+use refusal::FOOTER_OFFSET_WIDTH;
+use refusal::FOOTER_PAGE_SIZE;
+use refusal::FOOTER_RESERVED;
+use refusal::FOOTER_SIZE_WIDTH;
+use refusal::FOOTER_VERSION;
 use refusal::INDEX_LENGTH;
 use refusal::INDEX_SHORT;
 use refusal::Refusal;
@@ -62,17 +68,24 @@ fn footer(index: &[u8]) -> &[u8]
     &index[at..]
 }
 
-// What was judged before, then the footer byte at an offset, which lies from low to high.
-fn check_field(before: Verdict, footer: &[u8], at: usize, low: u8, high: u8) -> Verdict
-    ensures { λ r. ⌜ checkOf r ≡ first (checkOf before) (spec.fieldCheck (now (footer .entry)) at low high) ⌝ }
+// What was judged before, then the footer byte at an offset, which lies from low to high; else its number, at this offset.
+fn check_field(before: Verdict, footer: &[u8], at: usize, low: u8, high: u8, number: u32) -> Verdict
+    ensures { λ r. ⌜ checkOf r ≡ first (checkOf before) (spec.fieldCheck (now (footer .entry)) at low high number) ⌝ }
 {
     if let Verdict::Refused(_) = before {
         return before;
     }
     if !within(byte(footer, at) as u32, low as u32, high as u32) {
-        return refuse(FOOTER_FIELD, 0);
+        return refuse(number, at);
     }
     Verdict::Passed
+}
+
+// The same of a field that has one value.
+fn check_value(before: Verdict, footer: &[u8], at: usize, value: u8, number: u32) -> Verdict
+    ensures { λ r. ⌜ checkOf r ≡ first (checkOf before) (spec.fieldCheck (now (footer .entry)) at value value number) ⌝ }
+{
+    check_field(before, footer, at, value, value, number)
 }
 
 // Each field against its list, in the footer's order: version, reserved, page KB, offset width from low to high, size width,
@@ -81,14 +94,28 @@ fn check_fields(footer: &[u8], low: u8, high: u8) -> Verdict
     ensures { λ r. ⌜ checkOf r ≡ spec.fieldsCheckWith (now (footer .entry)) low high ⌝ }
 {
     let v = Verdict::Passed;
-    let v = check_field(v, footer, VERSION_AT, LEAST_VERSION, MOST_VERSION);
-    let v = check_field(v, footer, RESERVED_AT, 0, 0);
-    let v = check_field(v, footer, RESERVED_AT + 1, 0, 0);
-    let v = check_field(v, footer, PAGE_KB_AT, PAGE_KB, PAGE_KB);
-    let v = check_field(v, footer, OFFSET_WIDTH_AT, low, high);
-    let v = check_field(v, footer, SIZE_WIDTH_AT, SIZE_WIDTH, SIZE_WIDTH);
-    let v = check_field(v, footer, KEY_LENGTH_AT, LEAST_KEY_LENGTH, MOST_KEY_LENGTH);
-    check_field(v, footer, HASH_LENGTH_AT, HASH_LENGTH, HASH_LENGTH)
+    let v = check_field(
+        v,
+        footer,
+        VERSION_AT,
+        LEAST_VERSION,
+        MOST_VERSION,
+        FOOTER_VERSION,
+    );
+    let v = check_value(v, footer, RESERVED_AT, 0, FOOTER_RESERVED);
+    let v = check_value(v, footer, RESERVED_AT + 1, 0, FOOTER_RESERVED);
+    let v = check_value(v, footer, PAGE_KB_AT, PAGE_KB, FOOTER_PAGE_SIZE);
+    let v = check_field(v, footer, OFFSET_WIDTH_AT, low, high, FOOTER_OFFSET_WIDTH);
+    let v = check_value(v, footer, SIZE_WIDTH_AT, SIZE_WIDTH, FOOTER_SIZE_WIDTH);
+    let v = check_field(
+        v,
+        footer,
+        KEY_LENGTH_AT,
+        LEAST_KEY_LENGTH,
+        MOST_KEY_LENGTH,
+        FOOTER_KEY_LENGTH,
+    );
+    check_value(v, footer, HASH_LENGTH_AT, HASH_LENGTH, FOOTER_HASH_LENGTH)
 }
 
 // The first eight bytes of the hash of a footer, with the stored hash taken as zero, against the stored ones.
@@ -126,7 +153,7 @@ fn read_layout(footer: &[u8]) -> Layout
     Layout::new(version, offset_width, key_length, entries)
 }
 
-// Refusals 2 to 4.
+// Refusals 102 to 108, 3 and 4.
 fn check_footer(footer: &[u8]) -> Verdict
     requires { ⌜ length (now footer) ≡ layout.footerSize ⌝ }
     ensures { λ r. ⌜ checkOf r ≡ spec.footerCheck (now (footer .entry)) ⌝ }
@@ -144,7 +171,7 @@ fn check_footer(footer: &[u8]) -> Verdict
     Verdict::Passed
 }
 
-// Refusals 1 to 4, and what the footer says: the last 28 bytes of a file are enough.
+// The opening checks but the last, and what the footer says: the last 28 bytes of a file are enough.
 pub fn read_footer(index: &[u8]) -> Checked
     ensures { λ r. ⌜ spec.outcome r ≡ spec.footerOutcome (now (index .entry)) ⌝ }
 {

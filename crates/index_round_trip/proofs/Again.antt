@@ -21,8 +21,8 @@ use Rattle.refusal.specs.Number as number
 use Rattle.refusal.specs.Number.{index-page-hash, index-padding, index-order, last-key, footer-hash}
 use Rattle.refusal.proofs.Laws.{silent-test, quiet, skip, first-left, first-right, from-each, from-silent}
 use Rattle.index_layout.specs.declared.Layout.{Layout}
-use Rattle.index_layout.specs.Layout.{pageSize, footerSize, hashLength, versionAt, reservedAt, pageKbAt, offsetWidthAt, sizeWidthAt}
-use Rattle.index_layout.specs.Layout.{keyLengthAt, hashLengthAt, entryCountAt, footerHashAt, leastVersion, mostVersion, pageKb}
+use Rattle.index_layout.specs.Layout.{pageSize, footerSize, hashLength, versionAt, reservedAt, pageKbAt, sizeWidthAt}
+use Rattle.index_layout.specs.Layout.{hashLengthAt, entryCountAt, footerHashAt, leastVersion, mostVersion, pageKb}
 use Rattle.index_layout.specs.Layout.{leastOffsetWidth, mostOffsetWidth, sizeWidth, leastKeyLength, mostKeyLength, mostEntries}
 use Rattle.index_layout.specs.Layout.{footer, version, footerHash, entrySize, full, placedOn, placedNumber, onPage, entryNumber}
 use Rattle.index_layout.specs.Layout.{pageAt, entryAt, lastKeyAt, pageHashAt, indexLength, layoutWith, layoutFrom, layoutOf, pageOf}
@@ -194,32 +194,32 @@ little-again f at (suc n) h =
     ap₂ (λ x y. x ∷ littleBytes n y) first rest ∙ ap (λ r. byteAt f at ∷ r) (little-again f (at + 1) n h)
 
 module _ (f : List ℕ) (size : length f ≡ footerSize) (bytes : (i : ℕ) → byteAt f i < 256) (e : fieldsCheck f ≡ silent) where
-  exact : (at x : ℕ) → fieldCheck f at x x ≡ silent → byteAt f at ≡ x
-  exact at x h =
-      let r = field-range f at x x h in
+  exact : (at x number : ℕ) → fieldCheck f at x x number ≡ silent → byteAt f at ≡ x
+  exact at x number h =
+      let r = field-range f at x x number h in
       omega (arith, r .0, r .1)
 
   version-low : version f ≤ mostVersion
   unfolding fieldsCheckWith
-  version-low = field-range f versionAt leastVersion mostVersion (first-left (fieldCheck f versionAt leastVersion mostVersion) _ e) .1
+  version-low = field-range f versionAt leastVersion mostVersion _ (first-left _ _ e) .1
 
   -- the fields are those of the layout
   fields-again : partAt f versionAt (footerHashAt - versionAt) ≡ fields (layoutFrom f)
   unfolding fieldsCheckWith fields layoutFrom bytesFrom
   fields-again =
-      let a = first-right (fieldCheck f versionAt leastVersion mostVersion) _ e in
-      let b = first-right (fieldCheck f reservedAt 0 0) _ a in
-      let c = first-right (fieldCheck f (reservedAt + 1) 0 0) _ b in
-      let d = first-right (fieldCheck f pageKbAt pageKb pageKb) _ c in
-      let g = first-right (fieldCheck f offsetWidthAt leastOffsetWidth mostOffsetWidth) _ d in
-      let h = first-right (fieldCheck f sizeWidthAt sizeWidth sizeWidth) _ g in
-      let k = first-right (fieldCheck f keyLengthAt leastKeyLength mostKeyLength) _ h in
+      let a = first-right _ _ e in
+      let b = first-right _ _ a in
+      let c = first-right _ _ b in
+      let d = first-right _ _ c in
+      let g = first-right _ _ d in
+      let h = first-right _ _ g in
+      let k = first-right _ _ h in
       part-bytes f versionAt (footerHashAt - versionAt) (omega (arith, size))
-      ∙ ap₂ _∷_ refl (ap₂ _∷_ (exact reservedAt 0 (first-left (fieldCheck f reservedAt 0 0) _ a))
-      (ap₂ _∷_ (exact (reservedAt + 1) 0 (first-left (fieldCheck f (reservedAt + 1) 0 0) _ b))
-      (ap₂ _∷_ (exact pageKbAt pageKb (first-left (fieldCheck f pageKbAt pageKb pageKb) _ c))
-      (ap₂ _∷_ refl (ap₂ _∷_ (exact sizeWidthAt sizeWidth (first-left (fieldCheck f sizeWidthAt sizeWidth sizeWidth) _ g))
-      (ap₂ _∷_ refl (ap₂ _∷_ (exact hashLengthAt hashLength k) (sym (little-again f entryCountAt 4 bytes)))))))))
+      ∙ ap₂ _∷_ refl (ap₂ _∷_ (exact reservedAt 0 _ (first-left _ _ a))
+      (ap₂ _∷_ (exact (reservedAt + 1) 0 _ (first-left _ _ b))
+      (ap₂ _∷_ (exact pageKbAt pageKb _ (first-left _ _ c))
+      (ap₂ _∷_ refl (ap₂ _∷_ (exact sizeWidthAt sizeWidth _ (first-left _ _ g))
+      (ap₂ _∷_ refl (ap₂ _∷_ (exact hashLengthAt hashLength _ k) (sym (little-again f entryCountAt 4 bytes)))))))))
 
   footer-again : (contents : List ℕ) → footerHashCheck f ≡ silent → footerWith (layoutFrom f) contents ≡ take hashLength (md5 contents) ++ drop hashLength f
   unfolding footerWith hashedFields footerHashCheck

@@ -18,7 +18,7 @@ use Rattle.numbers.proofs.Laws.{within-inside}
 use Rattle.md5.specs.Message.{md5, digestOf, littleBytes}
 use Rattle.key.specs.Order.{compared, isBelow}
 use Rattle.refusal.specs.Check.{silent}
-use Rattle.refusal.specs.Number.{index-short, footer-field, footer-hash, entry-count, index-length, index-page-hash, index-padding, index-order, last-key}
+use Rattle.refusal.specs.Number.{index-short, footer-hash, entry-count, index-length, index-page-hash, index-padding, index-order, last-key}
 use Rattle.refusal.proofs.Laws.{quiet, skip, from-silent}
 use Rattle.index_layout.specs.declared.Layout.{Layout}
 use Rattle.index_layout.specs.Layout.{pageSize, footerSize, hashLength, versionAt, reservedAt, pageKbAt, offsetWidthAt, sizeWidthAt, keyLengthAt}
@@ -61,24 +61,24 @@ module _ (l : Layout) (contents : List ℕ) where
   unfolding layoutFrom footerWith hashedFields fields md5 digestOf littleBytes
   footer-layout h e = ap (layoutWith (l .version) (l .«offset_width») (l .«key_length»)) (footer-count h) ∙ sym e
 
-field-quiet : (f : List ℕ) (at low high x : ℕ) → byteAt f at ≡ x → low ≤ x → x ≤ high → fieldCheck f at low high ≡ silent
+field-quiet : (f : List ℕ) (at low high number x : ℕ) → byteAt f at ≡ x → low ≤ x → x ≤ high → fieldCheck f at low high number ≡ silent
 unfolding fieldCheck
-field-quiet f at low high x e h k =
-    quiet footer-field 0 refl (ap not (ap (λ n. within n low high) e ∙ within-inside low high x h k))
+field-quiet f at low high number x e h k =
+    quiet number at refl (ap not (ap (λ n. within n low high) e ∙ within-inside low high x h k))
 
 module _ (l : Layout) (contents : List ℕ) (v : l .version ≤ mostVersion) (o : (leastOffsetWidth ≤ l .«offset_width») × (l .«offset_width» ≤ mostOffsetWidth))
     (k : (leastKeyLength ≤ l .«key_length») × (l .«key_length» ≤ mostKeyLength)) where
   fields-quiet : fieldsCheck (footerWith l contents) ≡ silent
   unfolding fieldsCheckWith footerWith hashedFields fields md5 digestOf littleBytes
   fields-quiet =
-      skip (field-quiet _ versionAt leastVersion mostVersion (l .version) refl (omega arith) v)
-      (skip (field-quiet _ reservedAt 0 0 0 refl (omega arith) (omega arith))
-      (skip (field-quiet _ (reservedAt + 1) 0 0 0 refl (omega arith) (omega arith))
-      (skip (field-quiet _ pageKbAt pageKb pageKb pageKb refl (omega arith) (omega arith))
-      (skip (field-quiet _ offsetWidthAt leastOffsetWidth mostOffsetWidth (l .«offset_width») refl (o .0) (o .1))
-      (skip (field-quiet _ sizeWidthAt sizeWidth sizeWidth sizeWidth refl (omega arith) (omega arith))
-      (skip (field-quiet _ keyLengthAt leastKeyLength mostKeyLength (l .«key_length») refl (k .0) (k .1))
-      (field-quiet _ hashLengthAt hashLength hashLength hashLength refl (omega arith) (omega arith))))))))
+      skip (field-quiet _ versionAt leastVersion mostVersion _ (l .version) refl (omega arith) v)
+      (skip (field-quiet _ reservedAt 0 0 _ 0 refl (omega arith) (omega arith))
+      (skip (field-quiet _ (reservedAt + 1) 0 0 _ 0 refl (omega arith) (omega arith))
+      (skip (field-quiet _ pageKbAt pageKb pageKb _ pageKb refl (omega arith) (omega arith))
+      (skip (field-quiet _ offsetWidthAt leastOffsetWidth mostOffsetWidth _ (l .«offset_width») refl (o .0) (o .1))
+      (skip (field-quiet _ sizeWidthAt sizeWidth sizeWidth _ sizeWidth refl (omega arith) (omega arith))
+      (skip (field-quiet _ keyLengthAt leastKeyLength mostKeyLength _ (l .«key_length») refl (k .0) (k .1))
+      (field-quiet _ hashLengthAt hashLength hashLength _ hashLength refl (omega arith) (omega arith))))))))
 
   hash-quiet : footerHashCheck (footerWith l contents) ≡ silent
   unfolding footerHashCheck

@@ -40,5 +40,6 @@ listing = record {
   no-bytes = refl;
   with-place = refl;
   place-zero = refl;
+  of-footer-field = refl;
   without-place = refl;
 }

@@ -11,4 +11,5 @@ pub record Listing : Type 0 where
   pub no-bytes : printed [] ≡ ascii "refused 1\n"
   pub with-place : refusalLine 8 3 ≡ ascii "refused 8 at 3\n"
   pub place-zero : refusalLine 6 0 ≡ ascii "refused 6 at 0\n"
+  pub of-footer-field : refusalLine 105 12 ≡ ascii "refused 105 at 12\n"
   pub without-place : refusalLine 70 0 ≡ ascii "refused 70\n"

@@ -5,11 +5,12 @@ use Prim.Native.Nat.{ℕ}
 use lib.Dec.{eqb}
 use Rattle.numbers.specs.Number.{within}
 use Rattle.refusal.specs.Check.{Check, silent, refused}
-use Rattle.refusal.specs.Number.{index-page-hash, last-key, chunk-hash, decoded-size, encoding-page-hash, first-key, block-cut, id-range, hex-digit, list-falls}
+use Rattle.refusal.specs.Number.{index-page-hash, last-key, chunk-hash, decoded-size, encoding-page-hash, first-key, block-cut, id-range}
+use Rattle.refusal.specs.Number.{hex-digit, footer-version, footer-hash-length, list-falls}
 use Rattle.text.specs.Text.{ascii, numbered}
 use Rattle.listing.specs.Listing.{listingCheck, textOf}
 
--- Whether a number has a place (rule N1): 6 to 9, 23 to 25, 34 to 37, 40, 41, 61 and 161.
+-- Whether a number has a place (rule N1): 6 to 9, 23 to 25, 34 to 37, 40, 41, 61, 102 to 108 and 161.
 unfoldable pub hasPlace : ℕ → Bool
 hasPlace number =
     within number index-page-hash last-key
@@ -17,6 +18,7 @@ hasPlace number =
     || within number encoding-page-hash first-key
     || within number block-cut id-range
     || eqb number hex-digit
+    || within number footer-version footer-hash-length
     || eqb number list-falls
 
 -- The place, where the number has one, also a place 0.

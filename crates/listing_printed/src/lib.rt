@@ -6,6 +6,8 @@ use refusal::CHUNK_HASH;
 use refusal::DECODED_SIZE;
 use refusal::ENCODING_PAGE_HASH;
 use refusal::FIRST_KEY;
+use refusal::FOOTER_HASH_LENGTH;
+use refusal::FOOTER_VERSION;
 use refusal::HEX_DIGIT;
 use refusal::ID_RANGE;
 use refusal::INDEX_PAGE_HASH;
@@ -35,6 +37,7 @@ fn has_place(number: u32) -> bool
         || within(number, ENCODING_PAGE_HASH, FIRST_KEY)
         || within(number, BLOCK_CUT, ID_RANGE)
         || number == HEX_DIGIT
+        || within(number, FOOTER_VERSION, FOOTER_HASH_LENGTH)
         || number == LIST_FALLS
 }
 

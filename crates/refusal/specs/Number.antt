@@ -7,10 +7,6 @@ use Prim.Native.Nat.{ℕ}
 abbrev pub index-short : ℕ
 index-short = 1
 
--- a footer field outside its list
-abbrev pub footer-field : ℕ
-footer-field = 2
-
 -- footer hash wrong
 abbrev pub footer-hash : ℕ
 footer-hash = 3
@@ -174,6 +170,36 @@ hex-digit = 61
 -- listing input above 65,536 bytes
 abbrev pub listing-input : ℕ
 listing-input = 70
+
+-- ---- fields of an index's footer; place: offset within the footer
+
+-- version
+abbrev pub footer-version : ℕ
+footer-version = 102
+
+-- a reserved byte
+abbrev pub footer-reserved : ℕ
+footer-reserved = 103
+
+-- page size
+abbrev pub footer-page-size : ℕ
+footer-page-size = 104
+
+-- offset width
+abbrev pub footer-offset-width : ℕ
+footer-offset-width = 105
+
+-- size width
+abbrev pub footer-size-width : ℕ
+footer-size-width = 106
+
+-- key length
+abbrev pub footer-key-length : ℕ
+footer-key-length = 107
+
+-- hash length
+abbrev pub footer-hash-length : ℕ
+footer-hash-length = 108
 
 -- ---- lists of file numbers
 

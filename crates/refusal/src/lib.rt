@@ -6,8 +6,6 @@ ghost use Rattle.refusal.specs.Check.{refused, checkOf};
 // Archive index.
 pub const INDEX_SHORT: u32 = 1;
 
-pub const FOOTER_FIELD: u32 = 2;
-
 pub const FOOTER_HASH: u32 = 3;
 
 pub const ENTRY_COUNT: u32 = 4;
@@ -89,6 +87,21 @@ pub const HEX_DIGIT: u32 = 61;
 
 // Listing.
 pub const LISTING_INPUT: u32 = 70;
+
+// Fields of an index's footer.
+pub const FOOTER_VERSION: u32 = 102;
+
+pub const FOOTER_RESERVED: u32 = 103;
+
+pub const FOOTER_PAGE_SIZE: u32 = 104;
+
+pub const FOOTER_OFFSET_WIDTH: u32 = 105;
+
+pub const FOOTER_SIZE_WIDTH: u32 = 106;
+
+pub const FOOTER_KEY_LENGTH: u32 = 107;
+
+pub const FOOTER_HASH_LENGTH: u32 = 108;
 
 // Lists of file numbers.
 pub const LIST_FALLS: u32 = 161;

@@ -1,7 +1,7 @@
 //! What refusals mean for a person, and what to do.
 
 use std::ffi::OsStr;
-use std::ops::Range;
+use std::ops::{Range, RangeInclusive};
 
 use dwarnizza::index::{IndexEntry, Page, Slot, UncheckedIndex};
 use dwarnizza::{Index, Reason, Refusal, Subject};
@@ -32,6 +32,20 @@ const KINDS_OF_TEXT: [(&[u8], &str); 2] = [
         "a page of HTML or XML, such as a server sends in place of a file",
     ),
     (b"# ", "a configuration file"),
+];
+
+/// How many bytes the footer of an index has.
+const FOOTER: usize = 28;
+
+/// The fields of the footer of an archive index: which reason refuses each, and what it may be.
+const FIELDS: [(Reason, &str, RangeInclusive<u8>); 7] = [
+    (Reason::FooterVersion, "version", 0..=1),
+    (Reason::FooterReserved, "reserved byte", 0..=0),
+    (Reason::FooterPageSize, "page size in KB", 4..=4),
+    (Reason::FooterOffsetWidth, "offset width", 4..=6),
+    (Reason::FooterSizeWidth, "size width", 4..=4),
+    (Reason::FooterKeyLength, "key length", 1..=16),
+    (Reason::FooterHashLength, "hash length", 8..=8),
 ];
 
 /// How many bytes must be those of text before a file is taken for text.
@@ -118,12 +132,28 @@ fn footer_help(refused: Refusal, first: &[u8], last: UncheckedIndex<'_>, length:
         (Reason::FooterHash, None) => {
             "its footer is damaged, or it is cut in download: fetch it again".to_string()
         }
-        (_, None) => {
-            "its last bytes are no footer of an archive index: cut in download, or a file of \
-             another kind? Compare its length with the server's"
-                .to_string()
-        }
+        (_, None) => match field_words(refused, last) {
+            Some(field) => format!(
+                "{field}, so its last bytes are no footer of an archive index: cut in download, \
+                 or a file of another kind? Compare its length with the server's"
+            ),
+            None => String::new(),
+        },
     }
+}
+
+/// Which field of a footer is refused, what it is, and what it must be.
+fn field_words(refused: Refusal, last: UncheckedIndex<'_>) -> Option<String> {
+    let (_, footer) = last.bytes().split_last_chunk::<FOOTER>()?;
+    let value = footer.get(usize::try_from(refused.place).ok()?)?;
+    let mut fields = FIELDS.iter();
+    let (_, name, allowed) = fields.find(|(reason, ..)| *reason == refused.reason)?;
+    let (least, greatest) = (allowed.start(), allowed.end());
+    Some(match greatest - least {
+        0 => format!("{name} is {value}, must be {least}"),
+        1 => format!("{name} is {value}, must be {least} or {greatest}"),
+        _ => format!("{name} is {value}, must be {least} to {greatest}"),
+    })
 }
 
 /// Where in the file a refusal of its pages stands.
@@ -160,4 +190,35 @@ fn numbered(index: UncheckedIndex<'_>, number: u64) -> Option<IndexEntry<'_>> {
 /// A range of bytes in words.
 fn bytes(range: &Range<usize>) -> String {
     format!("bytes {} to {}", range.start, range.end - 1)
+}
+
+#[cfg(test)]
+mod tests {
+    use super::*;
+
+    /// Every value of every field: the table allows what the library allows, and the words name
+    /// the field and tell the value.
+    #[test]
+    fn words_of_every_field() {
+        let good = [1, 0, 0, 4, 4, 4, 16, 8];
+        let rows = [0, 1, 1, 2, 3, 4, 5, 6].map(|row: usize| &FIELDS[row]);
+        for (at, (reason, name, allowed)) in rows.into_iter().enumerate() {
+            for value in 0..=u8::MAX {
+                let mut footer = [0; FOOTER];
+                footer[8..16].copy_from_slice(&good);
+                footer[8 + at] = value;
+                let last = Index::unchecked(&footer);
+                let refused = last.footer().unwrap_err();
+                let words = field_words(refused, last);
+                if allowed.contains(&value) {
+                    assert_eq!(refused.reason, Reason::FooterHash);
+                    assert_eq!(words, None);
+                } else {
+                    assert_eq!((refused.reason, refused.place), (*reason, 8 + at as u64));
+                    let start = format!("{name} is {value}, must be ");
+                    assert!(words.is_some_and(|words| words.starts_with(&start)));
+                }
+            }
+        }
+    }
 }

@@ -81,10 +81,13 @@ fn words_of_footers() {
     let folder = folder("refusals_footers");
     let good = index(W4, 400, 0);
     let end = good.len();
-    // With offset width 0, and the footer's hash right.
-    let mut loose = IndexFile::new(W4, &list(W4, 400, 0));
-    loose.footer()[12] = 0;
-    loose.fix_footer_hash();
+    // With another offset width, and the footer's hash right.
+    let of_width = |width: u8| {
+        let mut file = IndexFile::new(W4, &list(W4, 400, 0));
+        file.footer()[12] = width;
+        file.fix_footer_hash();
+        file.bytes
+    };
     for (bytes, words) in [
         (
             &b"\x07short"[..],
@@ -92,11 +95,15 @@ fn words_of_footers() {
         ),
         (
             &good[..5000],
-            "refused 2: a footer field outside its list; its last bytes are no footer",
+            "refused 103 at 10: reserved footer byte not zero (footer byte 10); reserved byte is 4, must be 0, so its last bytes are no footer",
         ),
         (
-            &loose.bytes,
-            "refused 2: a footer field outside its list; by its footer it is an index of loose files or of patches",
+            &of_width(7),
+            "refused 105 at 12: footer offset width wrong (footer byte 12); offset width is 7, must be 4 to 6, so its last bytes are no footer",
+        ),
+        (
+            &of_width(0),
+            "refused 105 at 12: footer offset width wrong (footer byte 12); by its footer it is an index of loose files or of patches",
         ),
         (
             &with(&good, end - 1, good[end - 1] ^ 1),
@@ -154,7 +161,11 @@ fn judged_before_it_is_read() {
     for command in ["check", "list", "info"] {
         let refused = run_in_2_gb(&folder, ["index", command, "large"]);
         assert_eq!(refused.status, 2, "{}", refused.errors);
-        assert!(refused.errors.contains("refused 2"), "{}", refused.errors);
+        assert!(
+            refused.errors.contains("refused 104 at 11"),
+            "{}",
+            refused.errors
+        );
     }
     let good = index(W4, 171, 0);
     let footer = &good[good.len() - 28..];

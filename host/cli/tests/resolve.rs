@@ -200,7 +200,7 @@ fn other_files_are_refused_with_their_kind() {
 fn without_a_good_index_nothing_is_absent() {
     let mut arguments = build("root-v1", "root-v2");
     arguments.push("417");
-    let unknown = "refused\troot-v2\t2\t0\nunknown\t417\tindex\t-\n";
+    let unknown = "refused\troot-v2\t102\t8\nunknown\t417\tindex\t-\n";
     expect(&sample(), &arguments, 2, unknown, "it is a root file");
     let mut arguments = build("root-v1", "loose");
     arguments.push("417");

@@ -48,9 +48,10 @@ pub enum Index {}
 impl Index {
     /// The full check of an index.
     ///
-    /// Refused, by the first that holds, with [`IndexShort`], [`FooterField`], [`FooterHash`],
-    /// [`EntryCount`], [`IndexLength`], and then page by page with [`IndexPageHash`],
-    /// [`IndexPadding`], [`IndexOrder`], [`LastKey`].
+    /// Refused, by the first that holds, with [`IndexShort`], a field of the footer
+    /// ([`FooterVersion`] to [`FooterHashLength`]), [`FooterHash`], [`EntryCount`],
+    /// [`IndexLength`], and then page by page with [`IndexPageHash`], [`IndexPadding`],
+    /// [`IndexOrder`], [`LastKey`].
     ///
     /// ```
     /// use dwarnizza::{Index, Reason};
@@ -60,7 +61,8 @@ impl Index {
     /// ```
     ///
     /// [`IndexShort`]: crate::Reason::IndexShort
-    /// [`FooterField`]: crate::Reason::FooterField
+    /// [`FooterVersion`]: crate::Reason::FooterVersion
+    /// [`FooterHashLength`]: crate::Reason::FooterHashLength
     /// [`FooterHash`]: crate::Reason::FooterHash
     /// [`EntryCount`]: crate::Reason::EntryCount
     /// [`IndexLength`]: crate::Reason::IndexLength

@@ -68,7 +68,6 @@ macro_rules! reasons {
 // each.
 reasons! {
     IndexShort = 1, IndexOpening, "index under 28 bytes";
-    FooterField = 2, IndexOpening, "a footer field outside its list";
     FooterHash = 3, IndexOpening, "footer hash wrong";
     EntryCount = 4, IndexOpening, "more than 8,388,608 entries";
     IndexLength = 5, IndexOpening, "file length wrong";
@@ -107,6 +106,13 @@ reasons! {
     KeyTextLength = 60, Call, "key text not two characters for each byte of the key";
     HexDigit = 61, Call, "not a hex digit", "digit";
     ListingInput = 70, Call, "listing input above 65,536 bytes";
+    FooterVersion = 102, IndexOpening, "footer version wrong", "footer byte";
+    FooterReserved = 103, IndexOpening, "reserved footer byte not zero", "footer byte";
+    FooterPageSize = 104, IndexOpening, "footer page size wrong", "footer byte";
+    FooterOffsetWidth = 105, IndexOpening, "footer offset width wrong", "footer byte";
+    FooterSizeWidth = 106, IndexOpening, "footer size width wrong", "footer byte";
+    FooterKeyLength = 107, IndexOpening, "footer key length wrong", "footer byte";
+    FooterHashLength = 108, IndexOpening, "footer hash length wrong", "footer byte";
     ListFalls = 161, Call, "list falls", "id";
 }
 
@@ -116,7 +122,7 @@ reasons! {
 /// use dwarnizza::{Reason, Subject};
 ///
 /// let opening = Reason::all().filter(|reason| reason.subject() == Subject::IndexOpening);
-/// assert_eq!(opening.last(), Some(Reason::IndexLength));
+/// assert_eq!(opening.last(), Some(Reason::FooterHashLength));
 /// ```
 #[derive(Clone, Copy, Debug, PartialEq, Eq, Hash)]
 pub enum Subject {
@@ -321,6 +327,7 @@ mod tests {
                 "–" => "",
                 "byte offset of the block" => "block at byte",
                 "offset of the character" => "digit",
+                "offset in the footer" => "footer byte",
                 counted => counted,
             };
             Some([number, name.trim_end_matches('`'), place])

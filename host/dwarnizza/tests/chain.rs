@@ -356,7 +356,8 @@ impl ByHand {
 
     /// Indexes of which each is refused, and how: with keys of the right size and of another.
     fn bad_indexes(&self) -> Vec<(Answer, Vec<u8>)> {
-        let refused = |reason| refused(Link::Index, reason, 0);
+        let refused_at = |reason, place| refused(Link::Index, reason, place);
+        let refused = |reason| refused_at(reason, 0);
         let mut indexes = Vec::new();
         for index in [self.index.clone(), index_of(settings(8, 5), [5])] {
             let with = |change: &dyn Fn(&mut IndexFile)| {
@@ -369,7 +370,7 @@ impl ByHand {
                 (refused(Reason::IndexShort), Vec::new()),
                 (refused(Reason::IndexShort), short),
                 (
-                    refused(Reason::FooterField),
+                    refused_at(Reason::FooterHashLength, HASH_LENGTH),
                     with(&|file| file.footer()[HASH_LENGTH] = 16),
                 ),
                 (

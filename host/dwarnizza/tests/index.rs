@@ -3,6 +3,8 @@
 mod compare;
 mod raw;
 
+use std::ops::RangeInclusive;
+
 use compare::{compare_outputs, in_library_settings, in_library_terms, refusal_at};
 use dwarnizza::index::{CheckedIndex, Summary};
 use dwarnizza::{Index, Reason, Refusal};
@@ -160,38 +162,61 @@ fn the_zero_key_is_a_key() {
     }
 }
 
+/// The reason that refuses the byte at each offset of the footer, and what the byte may be.
+const FIELDS: [(usize, Reason, RangeInclusive<u8>); 8] = [
+    (8, Reason::FooterVersion, 0..=1),
+    (9, Reason::FooterReserved, 0..=0),
+    (10, Reason::FooterReserved, 0..=0),
+    (11, Reason::FooterPageSize, 4..=4),
+    (12, Reason::FooterOffsetWidth, 4..=6),
+    (13, Reason::FooterSizeWidth, 4..=4),
+    (14, Reason::FooterKeyLength, 1..=16),
+    (15, Reason::FooterHashLength, 8..=8),
+];
+
 /// All 256 values of each field, with the footer hash right and wrong.
 #[test]
 fn footer_fields() {
     let mut random = Random::of_test();
     for entries in [0, 1, 200] {
         let good = IndexFile::random(&mut random, settings(16, 4), entries);
-        for field in VERSION..=HASH_LENGTH {
+        for (at, reason, allowed) in &FIELDS {
             for value in 0..=u8::MAX {
                 let mut file = good.clone();
-                file.footer()[field] = value;
-                let allowed = match field {
-                    8 => value <= 1,
-                    9 | 10 => value == 0,
-                    11 | 13 => value == 4,
-                    12 => (4..=6).contains(&value),
-                    14 => (1..=16).contains(&value),
-                    _ => value == 8,
-                };
+                file.footer()[*at] = value;
+                let allowed = allowed.contains(&value);
                 file.fix_footer_hash();
                 let answer = second_check(&file.bytes);
-                assert_eq!(answer == refused(Reason::FooterField, 0), !allowed);
+                assert_eq!(answer == refused(*reason, *at), !allowed);
                 expect(&file.bytes, answer);
 
                 flip(&mut random, &mut file.footer()[FOOTER_HASH]);
-                let number = if allowed {
-                    Reason::FooterHash
+                let (reason, place) = if allowed {
+                    (Reason::FooterHash, 0)
                 } else {
-                    Reason::FooterField
+                    (*reason, *at)
                 };
-                expect_refused(&file.bytes, number, 0);
+                expect_refused(&file.bytes, reason, place);
             }
         }
+    }
+}
+
+/// Every choice of wrong fields: the first of them is told.
+#[test]
+fn the_first_wrong_field() {
+    let mut random = Random::of_test();
+    let good = IndexFile::random(&mut random, settings(16, 4), 171);
+    for chosen in 1..1_u32 << FIELDS.len() {
+        let mut file = good.clone();
+        for (row, (at, _, allowed)) in FIELDS.iter().enumerate() {
+            if chosen >> row & 1 == 1 {
+                file.footer()[*at] = allowed.end() + 1;
+            }
+        }
+        file.fix_footer_hash();
+        let (at, reason, _) = &FIELDS[chosen.trailing_zeros() as usize];
+        expect_refused(&file.bytes, *reason, *at);
     }
 }
 
@@ -289,9 +314,11 @@ fn lengths_beside_the_right_one() {
                 let file = [&contents[..rest], footer].concat();
                 expect_refused(&file, Reason::IndexLength, 0);
             }
-            // At the end, the footer is no longer the last.
+            // At the end, the footer is no longer the last: some field is wrong.
             let file = [contents, footer, &zeros].concat();
-            expect_refused(&file, Reason::FooterField, 0);
+            let refused = second_check(&file);
+            assert!(refused.is_err_and(|refused| (102..=108).contains(&refused.number())));
+            expect(&file, refused);
         }
     }
 }
@@ -313,7 +340,7 @@ fn another_count_on_the_same_pages() {
     }
 }
 
-/// Refusals 1 to 6 with one or more of the next behind each.
+/// The opening checks and 6, each with one or more of the next behind it.
 #[test]
 fn the_order_before_the_pages() {
     let mut random = Random::of_test();
@@ -329,9 +356,11 @@ fn the_order_before_the_pages() {
     flip(&mut random, &mut file.footer()[FOOTER_HASH]);
     expect_refused(&file.bytes, Reason::FooterHash, 0);
     file.footer()[HASH_LENGTH] = 16;
-    expect_refused(&file.bytes, Reason::FooterField, 0);
+    expect_refused(&file.bytes, Reason::FooterHashLength, HASH_LENGTH);
+    file.footer()[VERSION] = 2;
+    expect_refused(&file.bytes, Reason::FooterVersion, VERSION);
     let start = file.bytes.len() - FOOTER;
-    expect_refused(&file.bytes[start..], Reason::FooterField, 0);
+    expect_refused(&file.bytes[start..], Reason::FooterVersion, VERSION);
     expect_refused(&file.bytes[start + 1..], Reason::IndexShort, 0);
 }
 

@@ -106,7 +106,7 @@ fn stored_texts() {
         tally.add(&listed);
         expect(&input, listed);
     }
-    tally.print((1..=9).chain([70]));
+    tally.print([1].into_iter().chain(3..=9).chain([70]).chain(102..=108));
 }
 
 #[test]
@@ -195,14 +195,19 @@ fn the_limit_of_the_input() {
     let good = |entries: usize| IndexFile::new(settings, &counted_list(settings, entries)).bytes;
     let footer = good(0);
     for length in [MOST_LISTED - 1, MOST_LISTED, MOST_LISTED + 1, 1 << 20] {
-        let numbers = match length > MOST_LISTED {
-            true => [Reason::ListingInput; 2],
-            false => [Reason::IndexLength, Reason::FooterField],
+        let [by_length, by_footer] = match length > MOST_LISTED {
+            true => [refusal_at(Reason::ListingInput, 0); 2],
+            false => [
+                refusal_at(Reason::IndexLength, 0),
+                refusal_at(Reason::FooterVersion, 8),
+            ],
         };
-        for filling in [vec![0; length], random.bytes(length)] {
+        for filling in [vec![7; length], random.bytes(length)] {
+            let mut filling = filling;
+            filling[length - FOOTER + 8] |= 2;
+            expect(&filling, Err(by_footer));
             let ended = [&filling[..length - FOOTER], &footer].concat();
-            expect_refused(&ended, numbers[0], 0);
-            expect_refused(&filling, numbers[1], 0);
+            expect(&ended, Err(by_length));
         }
     }
 

@@ -432,11 +432,12 @@ fn wrong_key_lengths() {
 #[test]
 fn the_order_of_refusals() {
     #[track_caller]
-    fn expect(file: &[u8], reason: Reason) {
+    fn expect(file: &[u8], reason: Reason, place: usize) {
+        let refused = refusal_at(reason, place);
         for length in [0, 1, 15, 16, 17] {
-            assert_eq!(compare(file, &vec![0; length]), Err(refused(reason)));
+            assert_eq!(compare(file, &vec![0; length]), Err(refused));
         }
-        assert_eq!(compare_bound(file), Err(refused(reason)));
+        assert_eq!(compare_bound(file), Err(refused));
     }
     let mut random = Random::of_test();
     let mut file = IndexFile::random(&mut random, settings(16, 4), 171);
@@ -445,19 +446,21 @@ fn the_order_of_refusals() {
         Err(refused(Reason::IndexKeyLength))
     );
     file.set_count(341);
-    expect(&file.bytes, Reason::IndexLength);
+    expect(&file.bytes, Reason::IndexLength, 0);
     file.set_count(8_388_608);
-    expect(&file.bytes, Reason::IndexLength);
+    expect(&file.bytes, Reason::IndexLength, 0);
     file.set_count(8_388_609);
-    expect(&file.bytes, Reason::EntryCount);
+    expect(&file.bytes, Reason::EntryCount, 0);
     flip(&mut random, &mut file.footer()[FOOTER_HASH]);
-    expect(&file.bytes, Reason::FooterHash);
+    expect(&file.bytes, Reason::FooterHash, 0);
     file.footer()[HASH_LENGTH] = 16;
-    expect(&file.bytes, Reason::FooterField);
+    expect(&file.bytes, Reason::FooterHashLength, HASH_LENGTH);
+    file.footer()[VERSION] = 2;
+    expect(&file.bytes, Reason::FooterVersion, VERSION);
     let start = file.bytes.len() - FOOTER;
-    expect(&file.bytes[start..], Reason::FooterField);
-    expect(&file.bytes[start + 1..], Reason::IndexShort);
-    expect(&[], Reason::IndexShort);
+    expect(&file.bytes[start..], Reason::FooterVersion, VERSION);
+    expect(&file.bytes[start + 1..], Reason::IndexShort, 0);
+    expect(&[], Reason::IndexShort, 0);
 }
 
 /// All 256 values of each field of the footer and of its count, with the footer hash right and

@@ -44,7 +44,8 @@ BLOCK = forge.block([5], [b"\x07" * 16])
 
 
 def changed(data: bytes, at: int) -> bytes:
-    """The data with another byte at a place."""
+    """The data with another byte at a place, which counts from the end where it is negative."""
+    at %= len(data)
     return data[:at] + bytes([data[at] ^ 0xFF]) + data[at + 1 :]
 
 
@@ -54,7 +55,14 @@ def index_checks() -> List[Case]:
     falling = forge.index(ENTRIES[::-1])
     return [
         (1, 0, lambda: Index.check(b"")),
-        (2, 0, lambda: Index.check(forge.footer(0, b"", version=2))),
+        (102, 8, lambda: Index.check(forge.footer(0, b"", version=2))),
+        (103, 9, lambda: Index.check(changed(changed(INDEX, -19), -18))),
+        (103, 10, lambda: Index.check(changed(INDEX, -18))),
+        (104, 11, lambda: Index.check(changed(INDEX, -17))),
+        (105, 12, lambda: Index.check(forge.footer(0, b"", offset_width=7))),
+        (106, 13, lambda: Index.check(changed(INDEX, -15))),
+        (107, 14, lambda: Index.check(forge.footer(0, b"", key_length=17))),
+        (108, 15, lambda: Index.check(changed(INDEX, -13))),
         (3, 0, lambda: Index.check(changed(INDEX, len(INDEX) - 1))),
         (4, 0, lambda: Index.check(many)),
         (5, 0, lambda: Index.check(INDEX[1:])),

@@ -51,8 +51,8 @@ fn the_damaged_indexes_are_refused() {
             (name, (refusal.number, refusal.place))
         })
         .collect();
-    let expected = [("cut", 2), ("footer", 3), ("page", 6)];
-    let expected = expected.map(|(name, number)| (format!("{DAMAGED}{name}.index"), (number, 0)));
+    let expected = [("cut", (104, 11)), ("footer", (3, 0)), ("page", (6, 0))];
+    let expected = expected.map(|(name, refusal)| (format!("{DAMAGED}{name}.index"), refusal));
     assert_eq!(refused, expected.into());
 }
 

@@ -1,6 +1,6 @@
 //! Refusals.
 
-/// A refusal: its number in document 01's table, and its place (0 where the table names none).
+/// A refusal: its number by document 01 or a later request, and its place (0 where none is named).
 #[derive(Clone, Copy, Debug, PartialEq, Eq)]
 pub struct Refusal {
     /// What was wrong.
@@ -13,7 +13,7 @@ const fn refusal(number: u32) -> Refusal {
     Refusal { number, place: 0 }
 }
 
-fn refusal_at(number: u32, place: usize) -> Refusal {
+const fn refusal_at(number: u32, place: usize) -> Refusal {
     Refusal {
         number,
         place: place as u64,
@@ -23,8 +23,29 @@ fn refusal_at(number: u32, place: usize) -> Refusal {
 /// Index under 28 bytes.
 pub const INDEX_TOO_SHORT: Refusal = refusal(1);
 
-/// A footer field outside its list.
-pub const FOOTER_FIELD: Refusal = refusal(2);
+/// The footer's version is neither 0 nor 1.
+pub const FOOTER_VERSION: Refusal = refusal_at(102, 8);
+
+/// The first of the footer's reserved bytes is not 0.
+pub const FOOTER_RESERVED: Refusal = refusal_at(103, 9);
+
+/// Of the two only the second is not 0.
+pub const FOOTER_SECOND_RESERVED: Refusal = refusal_at(103, 10);
+
+/// The footer's page size is not 4 KB.
+pub const FOOTER_PAGE_SIZE: Refusal = refusal_at(104, 11);
+
+/// The footer's offset width is not 4, 5 or 6.
+pub const FOOTER_OFFSET_WIDTH: Refusal = refusal_at(105, 12);
+
+/// The footer's size width is not 4.
+pub const FOOTER_SIZE_WIDTH: Refusal = refusal_at(106, 13);
+
+/// The footer's key length is not 1 to 16.
+pub const FOOTER_KEY_LENGTH: Refusal = refusal_at(107, 14);
+
+/// The footer's hash length is not 8.
+pub const FOOTER_HASH_LENGTH: Refusal = refusal_at(108, 15);
 
 /// Footer hash wrong.
 pub const FOOTER_HASH: Refusal = refusal(3);

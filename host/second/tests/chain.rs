@@ -144,7 +144,7 @@ fn refused_by_each_link() {
             match (e, i) {
                 (0, 0) => assert!(matches!(answer, Ok(Resolved::Found { .. }))),
                 (0, 1) => assert_eq!(answer, refused(Link::Index, refusal::SOUGHT_KEY_LENGTH)),
-                (0, _) => assert_eq!(answer, refused(Link::Index, refusal::FOOTER_FIELD)),
+                (0, _) => assert_eq!(answer, refused(Link::Index, refusal::FOOTER_VERSION)),
                 (1, _) => {
                     let refusal = refusal::ENCODING_KEY_LENGTH;
                     assert_eq!(answer, refused(Link::Encoding, refusal));

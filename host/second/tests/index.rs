@@ -153,7 +153,7 @@ fn a_footer_is_read_whatever_comes_before_it() {
 
     let short = &whole[whole.len() - FOOTER + 1..];
     assert_eq!(footer(short), Err(refusal::INDEX_TOO_SHORT));
-    assert_eq!(footer(&whole[..PAGE]), Err(refusal::FOOTER_FIELD));
+    assert_eq!(footer(&whole[..PAGE]), Err(refusal::FOOTER_SECOND_RESERVED));
     let mut bad = whole.clone();
     *bad.last_mut().unwrap() ^= 1;
     assert_eq!(footer(&bad), Err(refusal::FOOTER_HASH));
@@ -167,7 +167,7 @@ fn loose_indexes() {
     assert!(is_loose(&loose));
     assert!(is_loose(&[&[7; 100], loose.as_slice()].concat()));
     assert!(!is_loose(&loose[1..]));
-    assert_eq!(check(&loose).err(), Some(refusal::FOOTER_FIELD));
+    assert_eq!(check(&loose).err(), Some(refusal::FOOTER_OFFSET_WIDTH));
 
     let hash = *b"\xa7\xcc\xdd\xbb\xc2\x15\xf7\x62";
     assert!(is_loose(&footer_of(
@@ -183,35 +183,43 @@ fn loose_indexes() {
     }
 }
 
-/// Each field beside its list, with a hash that fits.
+/// Values that each field may not have, and the number that refuses them.
+const WRONG: [(&[u8], u32); 8] = [
+    (&[2, 255], 102),
+    (&[1], 103),
+    (&[1], 103),
+    (&[3, 5], 104),
+    (&[1, 2, 3, 7], 105),
+    (&[3, 5], 106),
+    (&[0, 17], 107),
+    (&[7, 9], 108),
+];
+
+/// Each field beside its list, with a hash that fits; and each later field wrong beside it.
 #[test]
 fn fields_of_footers() {
     assert!(is_loose(&sealed_footer(LOOSE_FIELDS, 3)));
     assert!(footer(&sealed_footer(K16_W4_FIELDS, 3)).is_ok());
-    let wrong: [(usize, &[u8]); 8] = [
-        (0, &[2, 255]),
-        (1, &[1]),
-        (2, &[1]),
-        (3, &[3, 5]),
-        (4, &[1, 2, 3, 7]),
-        (5, &[3, 5]),
-        (6, &[0, 17]),
-        (7, &[7, 9]),
-    ];
-    for (field, values) in wrong {
+    for (field, (values, number)) in WRONG.into_iter().enumerate() {
+        let place = 8 + field as u64;
         for &value in values {
             let with = |mut fields: [u8; 8]| {
                 fields[field] = value;
                 sealed_footer(fields, 3)
             };
             assert!(!is_loose(&with(LOOSE_FIELDS)), "{field}: {value}");
-            let refused = footer(&with(K16_W4_FIELDS));
-            assert_eq!(refused, Err(refusal::FOOTER_FIELD), "{field}: {value}");
+            for later in field..8 {
+                let mut fields = K16_W4_FIELDS;
+                fields[later] = WRONG[later].0[0];
+                let refused = footer(&with(fields));
+                let wrong = Refusal { number, place };
+                assert_eq!(refused, Err(wrong), "{field}: {value}, {later}");
+            }
         }
     }
     assert!(!is_loose(&sealed_footer(K16_W4_FIELDS, 3)));
     let refused = footer(&sealed_footer(LOOSE_FIELDS, 3));
-    assert_eq!(refused, Err(refusal::FOOTER_FIELD));
+    assert_eq!(refused, Err(refusal::FOOTER_OFFSET_WIDTH));
 }
 
 /// What stands at the places told of a page: its part of the list, the last key of that, and the

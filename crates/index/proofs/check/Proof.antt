@@ -1,4 +1,4 @@
--- `index::check`: 1 to 5, then the pages.
+-- `index::check`: the opening checks, then the pages.
 use mathlib.Core.Path.{sym, ap, _∙_}
 use Rattle.refusal.proofs.Laws.{first-said, skip, refused-is, passed-is, after-said, after-quiet}
 use Rattle.index_layout.specs.Layout.{layoutOf}

@@ -1,4 +1,4 @@
--- `index_lookup::lookup` meets its contract: 1 to 5, 10, then the halving.
+-- `index_lookup::lookup` meets its contract: the opening checks, 10, then the halving.
 use Rattle.index_layout.specs.Layout.{layoutOf}
 use Rattle.index_open.specs.Open.{opening}
 use Rattle.index_open.proofs.Laws.{passed-index, refused-index}

@@ -1,7 +1,6 @@
 -- `index_open::check_field`: a refusal before it stays; else the byte against its bounds.
 use mathlib.Core.Path.{refl, sym, _∙_}
 use Rattle.refusal.specs.Check.{checkOf}
-use Rattle.refusal.specs.Number.{footer-field}
 use Rattle.refusal.proofs.Laws.{said, quiet, first-refused, first-passed}
 use Rattle.index_open.specs.Open.{fieldCheck}
 use borrow.Author.Needs.{needs}
@@ -23,7 +22,7 @@ returns-3 : tie.Need-returns-3
 unfolding fieldCheck checkOf
 returns-3 c =
     sym (first-passed _ _ (c .before .before .before .enum-told2 .given .1)
-    ∙ quiet footer-field 0 refl (rw (← c .before .before .byte .ensures, ← c .before .within .ensures) (c .if1 .left)))
+    ∙ quiet _ _ refl (rw (← c .before .before .byte .ensures, ← c .before .within .ensures) (c .if1 .left)))
 
 pub check-field-spec : {M : Type 1} → statement M
 check-field-spec =

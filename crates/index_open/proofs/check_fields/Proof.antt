@@ -1,4 +1,4 @@
--- `index_open::check_fields`: the first field outside its list speaks.
+-- `index_open::check_fields`: each field after those before it.
 use Rattle.refusal.specs.Check.{checkOf}
 use Rattle.index_open.specs.Open.{fieldsCheckWith}
 use Rattle.index_open.proofs.Laws.{chain}
@@ -9,14 +9,16 @@ use Rattle.index_open.proofs.check_fields.Tie as tie
 returns : tie.Need-returns
 unfolding fieldsCheckWith checkOf
 returns c =
-    let check-field5 = c .before .before .before in
-    let check-field4 = check-field5 .before in
-    let check-field3 = check-field4 .before in
-    let check-field2 = check-field3 .before in
-    let check-field = check-field2 .before in
-    chain _ _ _ _ _ _ _ _ (check-field .check-field .ensures) (check-field2 .check-field2 .ensures) (check-field3 .check-field3 .ensures)
-    (check-field4 .check-field4 .ensures) (check-field5 .check-field5 .ensures) (c .before .before .check-field6 .ensures)
-    (c .before .check-field7 .ensures) (c .check-field8 .ensures)
+    let key-length = c .before in
+    let size-width = key-length .before in
+    let offset-width = size-width .before in
+    let page-size = offset-width .before in
+    let second-reserved = page-size .before in
+    let reserved = second-reserved .before in
+    let version = reserved .before in
+    chain _ _ _ _ _ _ _ _ (version .check-field .ensures) (reserved .check-value .ensures) (second-reserved .check-value2 .ensures)
+    (page-size .check-value3 .ensures) (offset-width .check-field2 .ensures) (size-width .check-value4 .ensures)
+    (key-length .check-field3 .ensures) (c .check-value5 .ensures)
 
 pub check-fields-spec : {M : Type 1} → statement M
 check-fields-spec =

@@ -1,4 +1,4 @@
--- `index_open::open`: 1 to 4, then 5, or what the footer says.
+-- `index_open::open`: what the footer says, or its refusal, then 5.
 use mathlib.Core.Path.{sym}
 use lib.ListN.{length}
 use borrow.Author.Tests.{eq-eqb, ne-eqb}

@@ -1,4 +1,4 @@
--- `index_open::read_footer`: 1, then 2 to 4, or what the footer says.
+-- `index_open::read_footer`: 1, then the checks of the footer, or what it says.
 use mathlib.Core.Path.{refl, sym, ap, _∙_}
 use lib.ListN.{length}
 use borrow.Author.Tests.{lt-ltb, le-ltb}

@@ -1,4 +1,4 @@
--- `listing_printed::has_place`: within one of the first two ranges, of the first three, of all four; one number more.
+-- `listing_printed::has_place`: the first two tests, the first three, and so on.
 use mathlib.Core.Path.{_≡_, refl, sym, ap, _∙_}
 use mathlib.Core.Bool.{Bool, true, false, _||_}
 use mathlib.Core.Logic.{⊎-elim}
@@ -7,6 +7,7 @@ use lib.Dec.{eqb}
 use borrow.Author.Needs.{needs}
 use Rattle.numbers.specs.Number.{within}
 use Rattle.refusal.specs.Number.{index-page-hash, last-key, chunk-hash, decoded-size, encoding-page-hash, first-key, block-cut, id-range, hex-digit}
+use Rattle.refusal.specs.Number.{footer-version, footer-hash-length}
 use Rattle.listing_printed.specs.Printed.{hasPlace}
 use Rattle.listing_printed.proofs.has_place.Statement.{statement}
 use Rattle.listing_printed.proofs.has_place.Tie as tie
@@ -58,18 +59,29 @@ in-five c =
     ⊎-elim {C = c .if4 .if5 ≡ five (c .before .before .before .before .before .args .number)}
     (λ w. or-first _ _ _ _ (w .0 .taken) (w .1) e) (λ w. or-second _ _ _ _ _ (w .0 .left) (w .1) e refl) (c .if4 .came)
 
+six : ℕ → Bool
+six n = five n || within n footer-version footer-hash-length
+
+in-six : (c : tie.Joined5) → c .if5 .if6 ≡ six (c .before .before .before .before .before .before .args .number)
+unfolding six
+in-six c =
+    let e = in-five (c .before) in
+    ⊎-elim {C = c .if5 .if6 ≡ six (c .before .before .before .before .before .before .args .number)}
+    (λ w. or-first _ _ _ _ (w .0 .taken) (w .1) e) (λ w. or-second _ _ _ _ _ (w .0 .left) (w .2) e (w .1 .ensures)) (c .if5 .came)
+
 returns : tie.Need-returns
-unfolding hasPlace five four three two
-returns c = or-first _ _ _ _ (c .if5 .taken) refl (in-five (c .before))
+unfolding hasPlace six five four three two
+returns c = or-first _ _ _ _ (c .if6 .taken) refl (in-six (c .before))
 
 returns-2 : tie.Need-returns-2
-unfolding hasPlace five four three two
-returns-2 c = or-second _ _ _ _ _ (c .if5 .left) refl (in-five (c .before)) refl
+unfolding hasPlace six five four three two
+returns-2 c = or-second _ _ _ _ _ (c .if6 .left) refl (in-six (c .before)) refl
 
 pub has-place-spec : {M : Type 1} → statement M
 has-place-spec =
     tie.close
     (tie.spec
+    (λ c κs. search needs)
     (λ c κs. search needs)
     (λ c κs. search needs)
     (λ c κs. search needs)

@@ -8,8 +8,8 @@ use crate::refusal::Refusal;
 /// An archive index that nobody checked: a search may miss a key that it has.
 ///
 /// Each call but [`footer`], [`name`] and [`is_loose`] checks footer and length by itself, and is
-/// refused, by the first that holds, with [`IndexShort`], [`FooterField`], [`FooterHash`],
-/// [`EntryCount`], [`IndexLength`].
+/// refused, by the first that holds, with [`IndexShort`], a field of the footer
+/// ([`FooterVersion`] to [`FooterHashLength`]), [`FooterHash`], [`EntryCount`], [`IndexLength`].
 ///
 /// ```
 /// use dwarnizza::{Index, Reason};
@@ -22,7 +22,8 @@ use crate::refusal::Refusal;
 /// [`name`]: Self::name
 /// [`is_loose`]: Self::is_loose
 /// [`IndexShort`]: crate::Reason::IndexShort
-/// [`FooterField`]: crate::Reason::FooterField
+/// [`FooterVersion`]: crate::Reason::FooterVersion
+/// [`FooterHashLength`]: crate::Reason::FooterHashLength
 /// [`FooterHash`]: crate::Reason::FooterHash
 /// [`EntryCount`]: crate::Reason::EntryCount
 /// [`IndexLength`]: crate::Reason::IndexLength
@@ -63,8 +64,8 @@ impl<'a> UncheckedIndex<'a> {
 
     /// What the footer says. The length is not judged, so the last bytes of a file are enough.
     ///
-    /// Refused, by the first that holds, with [`IndexShort`], [`FooterField`], [`FooterHash`],
-    /// [`EntryCount`].
+    /// Refused, by the first that holds, with [`IndexShort`], a field of the footer
+    /// ([`FooterVersion`] to [`FooterHashLength`]), [`FooterHash`], [`EntryCount`].
     ///
     /// ```
     /// use dwarnizza::Index;
@@ -78,7 +79,8 @@ impl<'a> UncheckedIndex<'a> {
     /// ```
     ///
     /// [`IndexShort`]: crate::Reason::IndexShort
-    /// [`FooterField`]: crate::Reason::FooterField
+    /// [`FooterVersion`]: crate::Reason::FooterVersion
+    /// [`FooterHashLength`]: crate::Reason::FooterHashLength
     /// [`FooterHash`]: crate::Reason::FooterHash
     /// [`EntryCount`]: crate::Reason::EntryCount
     pub fn footer(self) -> Result<Footer, Refusal> {
@@ -104,7 +106,8 @@ impl<'a> UncheckedIndex<'a> {
     }
 
     /// Whether the last bytes are the footer of an index of loose files or of patches, which is no
-    /// archive index: other calls refuse it with [`FooterField`](crate::Reason::FooterField).
+    /// archive index: other calls refuse it with
+    /// [`FooterOffsetWidth`](crate::Reason::FooterOffsetWidth).
     ///
     /// ```
     /// assert!(!dwarnizza::Index::unchecked(b"any").is_loose());

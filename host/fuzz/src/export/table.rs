@@ -12,8 +12,11 @@ use super::library::{Function, State, bytes_16};
 use super::second_program::{Said, lookup, part, place_in_archive, settings};
 use super::{Export, Given};
 
-/// The refusals of the opening checks of an index, and of its pages.
-const OPENING: RangeInclusive<u32> = 1..=5;
+/// The refusals of the opening checks of an index: under 28 bytes, a field of the footer, and the
+/// others. Then those of its pages.
+const SHORT: RangeInclusive<u32> = 1..=1;
+const FIELDS: RangeInclusive<u32> = 102..=108;
+const OPENING: RangeInclusive<u32> = 3..=5;
 const PAGES: RangeInclusive<u32> = 6..=9;
 
 /// All of them.
@@ -132,7 +135,7 @@ pub static INDEX_CHECK: Export = Export {
     numbers: &[],
     library: Function::File(sys::dwarnizza_index_check),
     second: |given, _| Said::of(index::check(given.bytes[0]), settings),
-    refusals: &[OPENING, PAGES],
+    refusals: &[SHORT, FIELDS, OPENING, PAGES],
 };
 
 /// What a footer says.
@@ -142,7 +145,7 @@ pub static INDEX_SETTINGS: Export = Export {
     numbers: &[],
     library: Function::File(sys::dwarnizza_index_settings),
     second: |given, _| Said::of(index::Index::open(given.bytes[0]), settings),
-    refusals: &[OPENING],
+    refusals: &[SHORT, FIELDS, OPENING],
 };
 
 /// An entry by its page and slot.
@@ -161,7 +164,7 @@ pub static INDEX_ENTRY: Export = Export {
             [place, key_length, size, archive, entry.offset, page, slot]
         })
     },
-    refusals: &[OPENING],
+    refusals: &[SHORT, FIELDS, OPENING],
 };
 
 /// What a footer says, whatever the length.
@@ -183,7 +186,7 @@ pub static INDEX_FOOTER: Export = Export {
             [version, width, key, entries, pages, length, footer]
         })
     },
-    refusals: &[1..=4],
+    refusals: &[SHORT, FIELDS, 3..=4],
 };
 
 /// Whether a footer is that of loose files.
@@ -212,7 +215,7 @@ pub static INDEX_PAGE: Export = Export {
             std::array::from_fn::<u64, 8, _>(|word| words[word / 2][word % 2])
         })
     },
-    refusals: &[OPENING],
+    refusals: &[SHORT, FIELDS, OPENING],
 };
 
 /// The list of an index.
@@ -222,7 +225,7 @@ pub static INDEX_LIST: Export = Export {
     numbers: &[],
     library: Function::FileToOutput(sys::dwarnizza_index_list),
     second: |given, output| Said::of_length(index::list(given.bytes[0], output)),
-    refusals: &[OPENING, PAGES, 13..=13],
+    refusals: &[SHORT, FIELDS, OPENING, PAGES, 13..=13],
 };
 
 /// The index of a list.
@@ -320,7 +323,7 @@ pub static INDEX_LISTING: Export = Export {
             [text.len() as u64]
         })
     },
-    refusals: &[OPENING, PAGES, 70..=70],
+    refusals: &[SHORT, FIELDS, OPENING, PAGES, 70..=70],
 };
 
 /// The lookup of a key.
@@ -333,7 +336,7 @@ pub static INDEX_LOOKUP: Export = Export {
         Ok(found) => lookup(found),
         Err(refusal) => Said::refused(refusal, 0),
     },
-    refusals: &[OPENING, 10..=10],
+    refusals: &[SHORT, FIELDS, OPENING, 10..=10],
 };
 
 /// The most comparisons of a lookup.
@@ -343,7 +346,7 @@ pub static INDEX_BOUND: Export = Export {
     numbers: &[],
     library: Function::File(sys::dwarnizza_index_bound),
     second: |given, _| Said::of(index::bound(given.bytes[0]), |bound| [bound.into()]),
-    refusals: &[OPENING],
+    refusals: &[SHORT, FIELDS, OPENING],
 };
 
 /// The content of an envelope.
@@ -550,7 +553,7 @@ pub static RESOLVE: Export = Export {
         };
         resolved(chain::resolve(build, id, locale, unwanted))
     },
-    refusals: &[OPENING, 10..=10, 30..=33, 35..=35, 39..=44],
+    refusals: &[SHORT, FIELDS, OPENING, 10..=10, 30..=33, 35..=35, 39..=44],
 };
 
 /// The key of a text.

@@ -53,38 +53,22 @@ impl Footer {
         self.settings.file_len(self.entries)
     }
 
-    /// Reads a footer with one of these offset widths; refuses with 2 and 3.
+    /// Reads a footer with one of these offset widths; refuses with 102 to 108, and then 3.
     fn read(footer: &[u8; FOOTER], offset_widths: RangeInclusive<u8>) -> Result<Self, Refusal> {
         let (_, hashed) = footer.split_at(HASH);
         let (fields, stored) = hashed.split_at(hashed.len() - HASH);
-        let &[
-            version @ 0..=1,
-            RESERVED,
-            RESERVED,
-            PAGE_KB,
-            offset_width,
-            SIZE_WIDTH_FIELD,
-            key_length @ 1..=16,
-            HASH_LENGTH,
-            n0,
-            n1,
-            n2,
-            n3,
-        ] = fields
-        else {
-            return Err(refusal::FOOTER_FIELD);
-        };
-        if !offset_widths.contains(&offset_width) {
-            return Err(refusal::FOOTER_FIELD);
+        if let Some(refusal) = wrong_field(fields, offset_widths) {
+            return Err(refusal);
         }
         if stored != footer_hash(fields) {
             return Err(refusal::FOOTER_HASH);
         }
+        let &[.., n0, n1, n2, n3, _, _, _, _, _, _, _, _] = footer;
         Ok(Self {
             settings: Settings {
-                version: version.into(),
-                offset_width: offset_width.into(),
-                key_length: key_length.into(),
+                version: fields[0].into(),
+                offset_width: fields[4].into(),
+                key_length: fields[6].into(),
             },
             entries: u32::from_le_bytes([n0, n1, n2, n3]) as usize,
         })
@@ -116,6 +100,22 @@ impl Footer {
         hash.copy_from_slice(&footer_hash(fields));
         footer
     }
+}
+
+/// The refusal of the first field, from the version on, that is outside its list.
+fn wrong_field(fields: &[u8], offset_widths: RangeInclusive<u8>) -> Option<Refusal> {
+    let refusal = match *fields {
+        [2..=255, ..] => refusal::FOOTER_VERSION,
+        [_, 1..=255, ..] => refusal::FOOTER_RESERVED,
+        [_, _, 1..=255, ..] => refusal::FOOTER_SECOND_RESERVED,
+        [_, _, _, kb, ..] if kb != PAGE_KB => refusal::FOOTER_PAGE_SIZE,
+        [_, _, _, _, w, ..] if !offset_widths.contains(&w) => refusal::FOOTER_OFFSET_WIDTH,
+        [_, _, _, _, _, w, ..] if w != SIZE_WIDTH_FIELD => refusal::FOOTER_SIZE_WIDTH,
+        [_, _, _, _, _, _, 0 | 17..=255, ..] => refusal::FOOTER_KEY_LENGTH,
+        [_, _, _, _, _, _, _, l, ..] if l != HASH_LENGTH => refusal::FOOTER_HASH_LENGTH,
+        _ => return None,
+    };
+    Some(refusal)
 }
 
 /// The footer hash: over the fields from version to n, and zeros in place of itself.

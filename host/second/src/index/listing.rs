@@ -22,10 +22,10 @@ pub fn printed(input: &[u8]) -> String {
     listing(input).unwrap_or_else(refusal_line)
 }
 
-/// Of the listing's refusals, 6 to 9 have a place.
+/// Of the listing's refusals, 6 to 9 and 102 to 108 have a place.
 fn refusal_line(Refusal { number, place }: Refusal) -> String {
     match number {
-        6..=9 => format!("refused {number} at {place}\n"),
+        6..=9 | 102..=108 => format!("refused {number} at {place}\n"),
         _ => format!("refused {number}\n"),
     }
 }

@@ -48,7 +48,7 @@ fn check_and_list() {
     assert_eq!(output, LIST);
 }
 
-/// The first five refusals alone decide: keys out of order pass.
+/// The opening checks alone decide: keys out of order pass.
 #[test]
 fn settings_of_an_index() {
     let settings = ffi::dwarnizza_index_settings;
@@ -75,6 +75,30 @@ fn footer() {
     assert_eq!(one_input(footer, &bad), refused(3, 0));
 }
 
+/// Each field of the footer has its number and its place, in every call that opens an index.
+#[test]
+fn fields_of_the_footer() {
+    let calls = [
+        ffi::dwarnizza_index_check,
+        ffi::dwarnizza_index_settings,
+        ffi::dwarnizza_index_footer,
+        ffi::dwarnizza_index_bound,
+    ];
+    let numbers = [102, 103, 103, 104, 105, 106, 107, 108];
+    for (number, place) in numbers.into_iter().zip(8..) {
+        let mut bad = index();
+        let start = bad.len() - 28;
+        bad[start + place] = 0xff;
+        for call in calls {
+            assert_eq!(one_input(call, &bad), refused(number, place as u64));
+        }
+        let mut output = [0xee; 18];
+        let refusal = filling(ffi::dwarnizza_index_list, &bad, &mut output);
+        assert_eq!(refusal, refused(number, place as u64));
+        assert_eq!(output, [0xee; 18]);
+    }
+}
+
 /// The footer of an index of loose files: offset width 0, and the hash right.
 #[test]
 fn loose() {
@@ -90,7 +114,10 @@ fn loose() {
     let hash = second::md5::digest(&hashed).unwrap();
     index[start + 20..].copy_from_slice(&hash[..8]);
     assert_eq!(one_input(loose, &index), (0, [0; 8]));
-    assert_eq!(one_input(ffi::dwarnizza_index_check, &index), refused(2, 0));
+    assert_eq!(
+        one_input(ffi::dwarnizza_index_check, &index),
+        refused(105, 12)
+    );
 }
 
 #[test]
