@@ -33,13 +33,16 @@ unfolding textBy header pagesText pageText line entryLine locationText ascii dec
 texts = (refl, refl)
 
 pub listing : Listing
-unfolding printed listingCheck fullCheck opening refusedIf first printedAfter refusalLine placeText hasPlace within ascii decimalDigits
+unfolding printed listingCheck fullCheck opening footerCheck fieldsCheckWith fieldCheck refusedIf first printedAfter refusalLine
+    placeText hasPlace within ascii decimalDigits
 listing = record {
   one-entry = ap (λ k. printedAfter k one) (passes .0) ∙ texts .0;
   no-entries = ap (λ k. printedAfter k none) (passes .1) ∙ texts .1;
   no-bytes = refl;
   with-place = refl;
   place-zero = refl;
-  of-footer-field = refl;
+  offset-width-seven = refl;
+  both-reserved = refl;
+  second-reserved = refl;
   without-place = refl;
 }
