@@ -368,6 +368,12 @@ mod tests {
         }
     }
 
+    /// 2 was a field of the footer: 102 to 108 stand for it.
+    #[test]
+    fn a_retired_number_is_not_given_again() {
+        assert_eq!(Reason::from_number(2), None);
+    }
+
     #[test]
     fn the_place_is_said_exactly_where_the_table_names_one() {
         for reason in Reason::all() {
