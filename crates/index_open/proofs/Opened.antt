@@ -39,18 +39,20 @@ unfolding fieldCheck
 field-range f at low high number e =
     within-range low high (byteAt f at) (not-false _ (silent-test (not (within (byteAt f at) low high)) number at e))
 
--- the offset width is the fifth field, the key length the seventh
+-- the offset width is the fifth row of the table, the key length the seventh
 fields-range : (f : List ℕ) → fieldsCheck f ≡ silent
     → ((leastOffsetWidth ≤ offsetWidth f) × (offsetWidth f ≤ mostOffsetWidth)) × ((leastKeyLength ≤ keyLength f) × (keyLength f ≤ mostKeyLength))
 unfolding fieldsCheckWith
 fields-range f e =
-    let a = first-right _ _ e in
-    let b = first-right _ _ a in
-    let c = first-right _ _ b in
-    let d = first-right _ _ c in
-    let g = first-right _ _ d in
-    let h = first-right _ _ g in
-    (field-range f offsetWidthAt _ _ _ (first-left _ _ d), field-range f keyLengthAt _ _ _ (first-left _ _ h))
+    let from-reserved = first-right _ _ e in
+    let from-second-reserved = first-right _ _ from-reserved in
+    let from-page-size = first-right _ _ from-second-reserved in
+    let from-offset-width = first-right _ _ from-page-size in
+    let from-size-width = first-right _ _ from-offset-width in
+    let from-key-length = first-right _ _ from-size-width in (
+      field-range f offsetWidthAt _ _ _ (first-left _ _ from-offset-width),
+      field-range f keyLengthAt _ _ _ (first-left _ _ from-key-length),
+    )
 
 pub opened : (s : List ℕ) → opening s ≡ silent → Opened s
 unfolding opening footerCheck

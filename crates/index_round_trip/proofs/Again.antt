@@ -207,19 +207,19 @@ module _ (f : List ℕ) (size : length f ≡ footerSize) (bytes : (i : ℕ) → 
   fields-again : partAt f versionAt (footerHashAt - versionAt) ≡ fields (layoutFrom f)
   unfolding fieldsCheckWith fields layoutFrom bytesFrom
   fields-again =
-      let a = first-right _ _ e in
-      let b = first-right _ _ a in
-      let c = first-right _ _ b in
-      let d = first-right _ _ c in
-      let g = first-right _ _ d in
-      let h = first-right _ _ g in
-      let k = first-right _ _ h in
+      let from-reserved = first-right _ _ e in
+      let from-second-reserved = first-right _ _ from-reserved in
+      let from-page-size = first-right _ _ from-second-reserved in
+      let from-offset-width = first-right _ _ from-page-size in
+      let from-size-width = first-right _ _ from-offset-width in
+      let from-key-length = first-right _ _ from-size-width in
+      let hash-length-silent = first-right _ _ from-key-length in
       part-bytes f versionAt (footerHashAt - versionAt) (omega (arith, size))
-      ∙ ap₂ _∷_ refl (ap₂ _∷_ (exact reservedAt 0 _ (first-left _ _ a))
-      (ap₂ _∷_ (exact (reservedAt + 1) 0 _ (first-left _ _ b))
-      (ap₂ _∷_ (exact pageKbAt pageKb _ (first-left _ _ c))
-      (ap₂ _∷_ refl (ap₂ _∷_ (exact sizeWidthAt sizeWidth _ (first-left _ _ g))
-      (ap₂ _∷_ refl (ap₂ _∷_ (exact hashLengthAt hashLength _ k) (sym (little-again f entryCountAt 4 bytes)))))))))
+      ∙ ap₂ _∷_ refl (ap₂ _∷_ (exact reservedAt 0 _ (first-left _ _ from-reserved))
+      (ap₂ _∷_ (exact (reservedAt + 1) 0 _ (first-left _ _ from-second-reserved))
+      (ap₂ _∷_ (exact pageKbAt pageKb _ (first-left _ _ from-page-size))
+      (ap₂ _∷_ refl (ap₂ _∷_ (exact sizeWidthAt sizeWidth _ (first-left _ _ from-size-width))
+      (ap₂ _∷_ refl (ap₂ _∷_ (exact hashLengthAt hashLength _ hash-length-silent) (sym (little-again f entryCountAt 4 bytes)))))))))
 
   footer-again : (contents : List ℕ) → footerHashCheck f ≡ silent → footerWith (layoutFrom f) contents ≡ take hashLength (md5 contents) ++ drop hashLength f
   unfolding footerWith hashedFields footerHashCheck
