@@ -75,7 +75,7 @@ fn footer() {
     assert_eq!(one_input(footer, &bad), refused(3, 0));
 }
 
-/// Each field of the footer has its number and its place, in every call that opens an index.
+/// Each field of the footer has its number and its place.
 #[test]
 fn fields_of_the_footer() {
     let calls = [
