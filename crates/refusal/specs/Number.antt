@@ -201,6 +201,12 @@ footer-key-length = 107
 abbrev pub footer-hash-length : ℕ
 footer-hash-length = 108
 
+-- ---- name hash
+
+-- path above 1,024 bytes
+abbrev pub path-length : ℕ
+path-length = 110
+
 -- ---- lists of file numbers
 
 -- list falls; place: number of the id

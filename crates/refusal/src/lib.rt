@@ -103,6 +103,9 @@ pub const FOOTER_KEY_LENGTH: u32 = 107;
 
 pub const FOOTER_HASH_LENGTH: u32 = 108;
 
+// Name hash.
+pub const PATH_LENGTH: u32 = 110;
+
 // Lists of file numbers.
 pub const LIST_FALLS: u32 = 161;
 
