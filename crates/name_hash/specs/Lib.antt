@@ -1,0 +1,2 @@
+pub mod Hashlittle
+pub mod NameHash
