@@ -1,0 +1,13 @@
+-- `name_hash::add`: word by word.
+use borrow.Author.Needs.{needs}
+use Rattle.name_hash.specs.Hashlittle.{added}
+use Rattle.name_hash.proofs.add.Statement.{statement}
+use Rattle.name_hash.proofs.add.Tie as tie
+
+returns : tie.Need-returns
+unfolding added
+returns c =
+    rw (c .before .before .wrapping-add-u32 .ensures, c .before .wrapping-add-u322 .ensures, c .wrapping-add-u323 .ensures)
+
+pub add-spec : {M : Type 1} → statement M
+add-spec = tie.close (tie.spec (λ c κs. search needs) (λ c κs. search needs) (λ c κs. search needs) returns)

@@ -1,0 +1,20 @@
+-- `name_hash::normal`: the slash, a letter, and every other byte.
+use mathlib.Core.Logic.{⊎-elim, inl, inr}
+use native.Mathlib.Omega.{arith}
+use borrow.Author.Needs.{needs}
+use Rattle.name_hash.proofs.Laws.{letter, slash, other}
+use Rattle.name_hash.proofs.normal.Statement.{statement}
+use Rattle.name_hash.proofs.normal.Tie as tie
+
+returns : tie.Need-returns
+returns c = (slash _ (search needs), omega arith)
+
+returns-2 : tie.Need-returns-2
+returns-2 c = (letter _ (c .before .if1 .left) (omega arith), omega arith)
+
+returns-3 : tie.Need-returns-3
+returns-3 c =
+    (other _ (⊎-elim (λ w. inl (omega arith)) (λ w. inr (omega arith)) (c .if1 .came)) (λ e. omega arith), omega arith)
+
+pub normal-spec : {M : Type 1} → statement M
+normal-spec = tie.close (tie.spec (λ c. search needs) returns returns-2 returns-3)
