@@ -2,14 +2,18 @@
 use mathlib.Core.Path.{_≡_, refl, sym, ap, _∙_}
 use mathlib.Core.Logic.{_⊎_, inl, inr}
 use mathlib.Core.List.{List, [], _∷_}
-use Prim.Native.Nat.{ℕ, _+_, _-_, _*_, _/_, _%_, _^_, _≤_, _<_}
+use Prim.Native.Nat.{ℕ, zero, suc, _+_, _-_, _*_, _%_, _^_, _≤_, _<_, min}
+use native.Mathlib.Nat.{zero-add}
 use native.Mathlib.Numerals.{add-one}
 use native.Mathlib.Omega.{arith}
-use lib.ListN.{length, length-map, List·getD-map}
-use borrow.Author.Tests.{eq-eqb, ne-eqb, lt-ltb, le-ltb}
-use Rattle.parts.specs.Part.{byteAt}
+use lib.ListN.{length, set, replicate, length-map, length-replicate, List·getD-map, List·getD-eq-default}
+use lib.Seq.{paste, paste-suc}
+use borrow.Author.Tests.{eq-eqb, ne-eqb, lt-ltb, le-ltb, ltb-true, ltb-false}
+use lib.Dec.{ltb}
+use Rattle.parts.specs.Part.{byteAt, overlay}
+use Rattle.parts.proofs.Laws.{by-test, overlay-paste, overlay-zeros, overlay-length}
 use Rattle.numbers.specs.Number.{littleAt, within}
-use Rattle.numbers.proofs.Laws.{within-inside, within-outside}
+use Rattle.numbers.proofs.Laws.{within-inside, within-outside, littleAt-agree}
 use Rattle.refusal.specs.Check.{Check, silent, refused, refusedIf}
 use Rattle.refusal.specs.Number.{path-length}
 use Rattle.refusal.specs.Outcome.{answered, refusal, after}
@@ -18,7 +22,7 @@ use Rattle.refusal.proofs.Laws.{said, quiet, after-said, after-quiet, answered-
 use Rattle.name_hash.specs.declared.Words.{Words}
 use Rattle.name_hash.specs.declared.Hashed.{Hashed}
 use Rattle.name_hash.specs.declared.Hashed.the-variants.{Hash, Refused}
-use Rattle.name_hash.specs.Hashlittle.{subtract, lines, mix, final, start, added, mixed, hashlittle2}
+use Rattle.name_hash.specs.Hashlittle.{subtract, lines, mix, final, start, addedAt, mixed, blockCount, ended, hashlittle2}
 use Rattle.name_hash.specs.NameHash.{normalByte, normalized, joined, nameHash, mostPath, pathCheck, hashOutcome, outcome}
 
 -- ---- words
@@ -60,44 +64,78 @@ pub normal-at : (s : List ℕ) (i : ℕ) → byteAt (normalized s) i ≡ normalB
 unfolding normalByte within
 normal-at s i = List·getD-map normalByte s i 0
 
-pub word-is : (b0 b1 b2 b3 : ℕ) → normalByte b0 + normalByte b1 * 256 + normalByte b2 * 65536 + normalByte b3 * 16777216
-    ≡ littleAt (normalized (b0 ∷ b1 ∷ b2 ∷ b3 ∷ [])) 0 4
-unfolding littleAt
-word-is b0 b1 b2 b3 = omega arith
+-- ---- words and blocks
 
--- the word of the four bytes at an offset
-pub word-at : (s : List ℕ) (at : ℕ) (b0 b1 b2 b3 : ℕ) {r : ℕ}
-    → b0 ≡ byteAt s at → b1 ≡ byteAt s (at + 1) → b2 ≡ byteAt s (at + 2) → b3 ≡ byteAt s (at + 3)
-    → r ≡ littleAt (normalized (b0 ∷ b1 ∷ b2 ∷ b3 ∷ [])) 0 4 → r ≡ littleAt (normalized s) at 4
+pub word-is : (s : List ℕ) (at : ℕ)
+    → byteAt s at + byteAt s (at + 1) * 256 + byteAt s (at + 2) * 65536 + byteAt s (at + 3) * 16777216 ≡ littleAt s at 4
 unfolding littleAt
-word-at s at b0 b1 b2 b3 e0 e1 e2 e3 e =
+word-is s at =
     let two : at + 1 + 1 ≡ at + 2 = omega arith in
     let three : at + 2 + 1 ≡ at + 3 = omega arith in
-    rw (two, three, normal-at s at, normal-at s (at + 1), normal-at s (at + 2), normal-at s (at + 3), ← e0, ← e1, ← e2, ← e3) e
+    rw (two, three) (omega arith)
 
--- ---- blocks
+-- a turn of the loop over blocks
+pub mixed-next : (count : ℕ) (s : List ℕ) (n : ℕ) {w v u : Words} → w ≡ mixed count s n → v ≡ addedAt s (12 * n) w → u ≡ mix v
+    → u ≡ mixed count s (n + 1)
+unfolding mixed
+mixed-next count s n e a m = rw (add-one n) (m ∙ ap mix (a ∙ ap (addedAt s (12 * n)) e))
 
-module _ (s : List ℕ) where
-  pub mixed-none : {w : Words} → w ≡ start (length s) → w ≡ mixed (normalized s) 0
+-- lists with the same bytes, zeros past the end among them, come to the same end
+module _ (s t : List ℕ) (same : (i : ℕ) → byteAt s i ≡ byteAt t i) where
+  word-same : (at : ℕ) → littleAt s at 4 ≡ littleAt t at 4
+  word-same at = littleAt-agree s t at at 4 (λ i h. same (at + i))
+
+  added-same : (at : ℕ) (w : Words) → addedAt s at w ≡ addedAt t at w
+  added-same at w = rw (word-same at, word-same (at + 4), word-same (at + 8))
+
+  mixed-same : (count n : ℕ) → mixed count s n ≡ mixed count t n
   unfolding mixed
-  mixed-none e = e ∙ ap start (sym (length-map s normalByte))
+  mixed-same count zero = refl
+  mixed-same count (suc n) = ap mix (added-same (12 * n) (mixed count s n) ∙ ap (addedAt t (12 * n)) (mixed-same count n))
 
-  pub mixed-next : (n x y z : ℕ) {w v u : Words} → w ≡ mixed (normalized s) n
-      → x ≡ littleAt (normalized s) (12 * n) 4 → y ≡ littleAt (normalized s) (12 * n + 4) 4 → z ≡ littleAt (normalized s) (12 * n + 8) 4
-      → v ≡ added x y z w → u ≡ mix v → u ≡ mixed (normalized s) (n + 1)
-  unfolding mixed
-  mixed-next n x y z e p q r a m = rw (add-one n) (m ∙ ap mix (rw (← p, ← q, ← r, ← e) a))
+  ended-same : (count : ℕ) → ended count s ≡ ended count t
+  ended-same count =
+      let n = blockCount count in
+      ap final (added-same (12 * n) (mixed count s n) ∙ ap (addedAt t (12 * n)) (mixed-same count n))
 
-  pub hash-none : {w : Words} → length s ≡ 0 → w ≡ start 0 → w ≡ hashlittle2 (normalized s)
+-- ---- hashlittle2 of a path as it is hashed
+
+-- one byte more
+pub normal-next : (path room : List ℕ) (i : ℕ) {b : ℕ} → i < length path → length path ≤ length room → b ≡ normalByte (byteAt path i)
+    → set (paste room 0 (normalized path) i) i b ≡ paste room 0 (normalized path) (i + 1)
+normal-next path room i l m e =
+    let at : 0 + i ≡ i = zero-add i in
+    let inside : i < length (normalized path) = rw (length-map path normalByte) l in
+    rw (e, ← normal-at path i, add-one i) (ap (λ k. set (paste room 0 (normalized path) i) k (byteAt (normalized path) i)) (sym at)
+    ∙ paste-suc room 0 (normalized path) i 0 (omega arith) inside)
+
+pub normal-all : (path room : List ℕ) (i : ℕ) → length path ≤ i → i ≤ length path → length path ≤ length room
+    → paste room 0 (normalized path) i ≡ overlay room 0 (normalized path)
+normal-all path room i l m h =
+    let all : i ≡ min (length (normalized path)) (length room - 0) = rw (length-map path normalByte) (omega arith) in
+    rw all (sym (overlay-paste room 0 (normalized path)))
+
+-- in front of zeros they have the same bytes as by themselves
+normal-bytes : (path room : List ℕ) (n : ℕ) → length path ≤ n → room ≡ overlay (replicate n 0) 0 (normalized path)
+    → (i : ℕ) → byteAt room i ≡ byteAt (normalized path) i
+normal-bytes path room n l e i =
+    let size : length room ≡ n = ap length e ∙ overlay-length (replicate n 0) 0 (normalized path) ∙ length-replicate n 0 in
+    let same : length (normalized path) ≡ length path = length-map path normalByte in
+    by-test (ltb i n)
+    (λ t. ap (λ r. byteAt r i) e ∙ overlay-zeros n (normalized path) i (ltb-true i n t))
+    (λ t. List·getD-eq-default room 0 (omega (arith, ltb-false i n t)) ∙ sym (List·getD-eq-default (normalized path) 0 (omega (arith, ltb-false i n t))))
+
+module _ (path : List ℕ) where
+  pub hash-none : {w : Words} → length path ≡ 0 → w ≡ start 0 → w ≡ hashlittle2 (normalized path)
   unfolding hashlittle2
-  hash-none l e = rw (length-map s normalByte, eq-eqb (length s) 0 l) e
+  hash-none l e = rw (length-map path normalByte, eq-eqb (length path) 0 l) e
 
-  pub hash-some : (n x y z : ℕ) {w v u : Words} → (length s ≡ 0 → ⊥) → n ≡ (length s - 1) / 12 → w ≡ mixed (normalized s) n
-      → x ≡ littleAt (normalized s) (12 * n) 4 → y ≡ littleAt (normalized s) (12 * n + 4) 4 → z ≡ littleAt (normalized s) (12 * n + 8) 4
-      → v ≡ added x y z w → u ≡ final v → u ≡ hashlittle2 (normalized s)
+  pub hash-some : (room : List ℕ) (n : ℕ) {w : Words} → 0 < length path → length path ≤ n → room ≡ overlay (replicate n 0) 0 (normalized path)
+      → w ≡ ended (length path) room → w ≡ hashlittle2 (normalized path)
   unfolding hashlittle2
-  hash-some n x y z some c e p q r a f =
-      rw (length-map s normalByte, ne-eqb (length s) 0 some, ← c) (f ∙ ap final (rw (← p, ← q, ← r, ← e) a))
+  hash-some room n some l o e =
+      rw (length-map path normalByte, ne-eqb (length path) 0 (λ z. omega arith))
+      (e ∙ ended-same room (normalized path) (normal-bytes path room n l o) (length path))
 
 -- ---- what the answer says
 

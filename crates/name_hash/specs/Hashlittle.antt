@@ -38,7 +38,7 @@ finalLine k w = turned (record { a = w .a; b = w .b; c = subtract (bitXor (w .c)
 unfoldable pub final : Words → Words
 final w = turned (turned (lines finalLine (14 ∷ 11 ∷ 25 ∷ 16 ∷ 4 ∷ 14 ∷ 24 ∷ []) w))
 
--- a, b and c at the start, by the number of bytes.
+-- a, b and c at the start, by the count of bytes.
 unfoldable pub start : ℕ → Words
 start count = record { a = add 0xdeadbeef count; b = add 0xdeadbeef count; c = add 0xdeadbeef count }
 
@@ -51,14 +51,18 @@ abbrev pub addedAt : List ℕ → ℕ → Words → Words
 addedAt s at w = added (littleAt s at 4) (littleAt s (at + 4) 4) (littleAt s (at + 8) 4) w
 
 -- a, b and c after n blocks of 12 bytes.
-unfoldable pub mixed : List ℕ → ℕ → Words
-mixed s zero = start (length s)
-mixed s (suc n) = mix (addedAt s (12 * n) (mixed s n))
+unfoldable pub mixed : (count : ℕ) → List ℕ → ℕ → Words
+mixed count s zero = start count
+mixed count s (suc n) = mix (addedAt s (12 * n) (mixed count s n))
 
 -- The blocks that are mixed: those with bytes behind them.
-abbrev pub blockCount : List ℕ → ℕ
-blockCount s = (length s - 1) / 12
+abbrev pub blockCount : (count : ℕ) → ℕ
+blockCount count = (count - 1) / 12
 
--- The last 1 to 12 bytes; of no bytes nothing is added or mixed.
+-- The last 1 to 12 bytes, after the blocks.
+abbrev pub ended : (count : ℕ) → List ℕ → Words
+ended count s = final (addedAt s (12 * blockCount count) (mixed count s (blockCount count)))
+
+-- Of no bytes nothing is added or mixed.
 unfoldable pub hashlittle2 : List ℕ → Words
-hashlittle2 s = cond (eqb (length s) 0) (start 0) (final (addedAt s (12 * blockCount s) (mixed s (blockCount s))))
+hashlittle2 s = cond (eqb (length s) 0) (start 0) (ended (length s) s)

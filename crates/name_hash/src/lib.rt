@@ -1,13 +1,12 @@
 // Name hashes: hashlittle2 of a path in capitals, with backslashes.
-use parts::byte;
 use refusal::PATH_LENGTH;
 use refusal::Refusal;
 use std::num::wrapping_add_u32;
 use std::num::wrapping_sub_u32;
 ghost use mathlib.Core.Path.{_≡_};
-ghost use mathlib.Core.List.{[], _∷_};
 ghost use Prim.Native.Nat.{_+_, _*_, _<_, _≤_};
-ghost use lib.ListN.{length};
+ghost use lib.ListN.{length, replicate};
+ghost use Rattle.parts.specs.Part.{byteAt, overlay};
 ghost use Rattle.numbers.specs.Number.{littleAt};
 ghost use Rattle.md5_block.specs.Block.{rotated};
 ghost use Rattle.name_hash.specs.Hashlittle as little;
@@ -89,56 +88,31 @@ fn final_mix(w: Words) -> Words
     }
 }
 
-// A byte of a path as it is hashed.
-fn normal(b: u8) -> u32
-    ensures { λ r. ⌜ (r ≡ spec.normalByte b) × (r < 256) ⌝ }
+// A byte, widened: its range comes with it.
+fn wide(s: &[u8], at: usize) -> u32
+    requires { ⌜ at < length (now s) ⌝ }
+    ensures { λ r. ⌜ (r ≡ byteAt (now (s .entry)) at) × (r < 256) ⌝ }
 {
-    match b {
-        b'a'..=b'z' => b as u32 - 32,
-        b'/' => 92,
-        _ => b as u32,
-    }
+    s[at] as u32
 }
 
-// The word of four bytes of a path, the lowest first.
-fn word(b0: u8, b1: u8, b2: u8, b3: u8) -> u32
-    ensures { λ r. ⌜ r ≡ littleAt (spec.normalized (b0 ∷ b1 ∷ b2 ∷ b3 ∷ [])) 0 4 ⌝ }
+// The four bytes at an offset, the lowest first.
+fn word(s: &[u8], at: usize) -> u32
+    requires { ⌜ at + 4 ≤ length (now s) ⌝ }
+    ensures { λ r. ⌜ r ≡ littleAt (now (s .entry)) at 4 ⌝ }
 {
-    normal(b0) + normal(b1) * 256 + normal(b2) * 65536 + normal(b3) * 16777216
+    wide(s, at) + wide(s, at + 1) * 256 + wide(s, at + 2) * 65536 + wide(s, at + 3) * 16777216
 }
 
-// The word at an offset, its bytes inside the path.
-fn word_inside(path: &[u8], at: usize) -> u32
-    requires { ⌜ at + 4 ≤ length (now path) ⌝ }
-    ensures { λ r. ⌜ r ≡ littleAt (spec.normalized (now (path .entry))) at 4 ⌝ }
-{
-    word(path[at], path[at + 1], path[at + 2], path[at + 3])
-}
-
-// The word at an offset, with zeros past the end.
-fn word_at(path: &[u8], at: usize) -> u32
-    requires { ⌜ at ≤ spec.mostPath + 8 ⌝ }
-    ensures { λ r. ⌜ r ≡ littleAt (spec.normalized (now (path .entry))) at 4 ⌝ }
-{
-    if at + 4 <= path.len() {
-        return word_inside(path, at);
-    }
-    word(
-        byte(path, at),
-        byte(path, at + 1),
-        byte(path, at + 2),
-        byte(path, at + 3),
-    )
-}
-
-// Three words added to a, b and c.
-fn add(w: Words, x: u32, y: u32, z: u32) -> Words
-    ensures { λ r. ⌜ r ≡ little.added x y z w ⌝ }
+// The three words at an offset added to a, b and c.
+fn add(w: Words, s: &[u8], at: usize) -> Words
+    requires { ⌜ at + 12 ≤ length (now s) ⌝ }
+    ensures { λ r. ⌜ r ≡ little.addedAt (now (s .entry)) at w ⌝ }
 {
     Words {
-        a: wrapping_add_u32(w.a, x),
-        b: wrapping_add_u32(w.b, y),
-        c: wrapping_add_u32(w.c, z),
+        a: wrapping_add_u32(w.a, word(s, at)),
+        b: wrapping_add_u32(w.b, word(s, at + 4)),
+        c: wrapping_add_u32(w.c, word(s, at + 8)),
     }
 }
 
@@ -149,42 +123,89 @@ fn start(count: u32) -> Words
     Words { a: v, b: v, c: v }
 }
 
-// The words after the first n blocks of 12 bytes.
-fn mix_blocks(path: &[u8], n: usize) -> Words
-    requires { ⌜ (12 * n ≤ length (now path)) × (length (now path) ≤ spec.mostPath) ⌝ }
-    ensures { λ r. ⌜ r ≡ little.mixed (spec.normalized (now (path .entry))) n ⌝ }
+// The words after n blocks of 12 bytes.
+fn mix_blocks(s: &[u8], count: u32, n: usize) -> Words
+    requires { ⌜ 12 * n ≤ length (now s) ⌝ }
+    ensures { λ r. ⌜ r ≡ little.mixed count (now (s .entry)) n ⌝ }
 {
-    let mut w = start(path.len() as u32);
+    let mut w = start(count);
     let mut i = 0;
     while i < n {
-        let at = 12 * i;
-        w = mix(add(
-            w,
-            word_inside(path, at),
-            word_inside(path, at + 4),
-            word_inside(path, at + 8),
-        ));
+        w = mix(add(w, s, 12 * i));
         i += 1;
     }
     w
 }
 
-fn hashlittle2(path: &[u8]) -> Words
+// The words at the end of `count` bytes, behind which there are more.
+fn end(s: &[u8], count: u32) -> Words
+    requires { ⌜ (0 < count) × (count + 12 ≤ length (now s)) ⌝ }
+    ensures { λ r. ⌜ r ≡ little.ended count (now (s .entry)) ⌝ }
+{
+    let n = (count as usize - 1) / 12;
+    final_mix(add(mix_blocks(s, count, n), s, 12 * n))
+}
+
+// A byte of a path as it is hashed.
+fn normal(b: u8) -> u8
+    ensures { λ r. ⌜ r ≡ spec.normalByte b ⌝ }
+{
+    match b {
+        b'a'..=b'z' => b - 32,
+        b'/' => b'\\',
+        _ => b,
+    }
+}
+
+// Puts the bytes of a path, as they are hashed, in front.
+fn normalize(path: &[u8], room: &mut [u8])
+    requires { ⌜ length (now path) ≤ length (now room) ⌝ }
+    ensures { λ _. ⌜ now (room .exit) ≡ overlay (now (room .entry)) 0 (spec.normalized (now (path .entry))) ⌝ }
+{
+    let mut i = 0;
+    while i < path.len() {
+        room[i] = normal(path[i]);
+        i += 1;
+    }
+}
+
+// Room for a path of the greatest length and 12 zeros.
+fn zeros() -> [u8; 1036]
+    ensures { λ r. ⌜ r ≡ replicate 1036 0 ⌝ }
+{
+    [0u8; 1036]
+}
+
+fn hash_long(path: &[u8]) -> Words
+    requires { ⌜ (0 < length (now path)) × (length (now path) ≤ spec.mostPath) ⌝ }
+    ensures { λ r. ⌜ r ≡ little.hashlittle2 (spec.normalized (now (path .entry))) ⌝ }
+{
+    let mut room = zeros();
+    normalize(path, &mut room);
+    end(&room, path.len() as u32)
+}
+
+// The same of a path that leaves 12 zeros in a room of 128 bytes, as most do: there are fewer zeros to write.
+fn hash_short(path: &[u8]) -> Words
+    requires { ⌜ (0 < length (now path)) × (length (now path) ≤ 116) ⌝ }
+    ensures { λ r. ⌜ r ≡ little.hashlittle2 (spec.normalized (now (path .entry))) ⌝ }
+{
+    let mut room = [0u8; 128];
+    normalize(path, &mut room);
+    end(&room, path.len() as u32)
+}
+
+fn hash_words(path: &[u8]) -> Words
     requires { ⌜ length (now path) ≤ spec.mostPath ⌝ }
     ensures { λ r. ⌜ r ≡ little.hashlittle2 (spec.normalized (now (path .entry))) ⌝ }
 {
     if path.len() == 0 {
         return start(0);
     }
-    let n = (path.len() - 1) / 12;
-    let w = mix_blocks(path, n);
-    let at = 12 * n;
-    final_mix(add(
-        w,
-        word_at(path, at),
-        word_at(path, at + 4),
-        word_at(path, at + 8),
-    ))
+    if path.len() <= 116 {
+        return hash_short(path);
+    }
+    hash_long(path)
 }
 
 // The name hash of a path, or refusal 110.
@@ -197,6 +218,6 @@ pub fn hash(path: &[u8]) -> Hashed
             place: 0,
         });
     }
-    let w = hashlittle2(path);
+    let w = hash_words(path);
     Hashed::Hash(w.c as u64 * 4294967296 + w.b as u64)
 }

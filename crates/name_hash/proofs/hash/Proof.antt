@@ -13,7 +13,7 @@ returns-2 : tie.Need-returns-2
 unfolding outcome
 returns-2 c =
     let h = c .before .before in
-    short-enough (h .before .before .before .args .path .now) (h .hashlittle2 .result) (h .before .if1 .left) (h .hashlittle2 .ensures)
+    short-enough (h .before .before .before .args .path .now) (h .hash-words .result) (h .before .if1 .left) (h .hash-words .ensures)
 
 pub hash-spec : {M : Type 1} → statement M
 hash-spec =

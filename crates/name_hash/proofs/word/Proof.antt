@@ -1,5 +1,4 @@
--- `name_hash::word`: four bytes as they are hashed, each below 256.
-use mathlib.Core.Path.{_∙_}
+-- `name_hash::word`: four bytes, each below 256.
 use borrow.Author.Needs.{needs}
 use Rattle.name_hash.proofs.Laws.{word-is}
 use Rattle.name_hash.proofs.word.Statement.{statement}
@@ -7,18 +6,21 @@ use Rattle.name_hash.proofs.word.Tie as tie
 
 returns : tie.Need-returns
 returns c =
-    rw (c .before .before .before .normal .ensures .0, c .before .before .normal2 .ensures .0, c .before .normal3 .ensures .0, c .normal4 .ensures .0)
-    (word-is _ _ _ _)
+    rw (c .before .before .before .wide .ensures .0, c .before .before .wide2 .ensures .0, c .before .wide3 .ensures .0, c .wide4 .ensures .0)
+    (word-is _ _)
 
 pub word-spec : {M : Type 1} → statement M
 word-spec =
     tie.close
     (tie.spec
     (λ c κs. search needs)
+    (λ c. search needs)
     (λ c κs. search needs)
     (λ c. search needs)
     (λ c. search needs)
+    (λ c. search needs)
     (λ c κs. search needs)
+    (λ c. search needs)
     (λ c. search needs)
     (λ c. search needs)
     (λ c κs. search needs)
