@@ -23,8 +23,11 @@ use Rattle.root.specs.declared.Answer.{Answer}
 use Rattle.root.specs.Lookup as lookup
 use Rattle.root.specs.Lookup.{keyOr}
 use Rattle.root.proofs.First.{key-found}
+use Rattle.root_find_path.specs.declared.Answer as path
+use Rattle.root_find_path.specs.Path as paths
+use Rattle.root_find_path.proofs.Laws as path-laws
 use Rattle.crossing.specs.Crossing.{lentAfter}
-use Rattle.answers.specs.Lent.{keyFound, wordsTo, footerTold}
+use Rattle.answers.specs.Lent.{keyFound, keyOfRecord, wordsTo, footerTold}
 use Rattle.dwarnizza.specs.Indexes.{footerOutcome}
 
 -- only what passes is put
@@ -58,6 +61,13 @@ unfolding keyFound keyOr lookup.outcome
 key-lent s lent zeros (root.the-variants.Key at) key o e k = key-found s key zeros lent at o k e
 key-lent s lent zeros root.the-variants.Absent key o e k = ap (keyOr s lent) e
 key-lent s lent zeros (root.the-variants.Refused r) key o e k = ap (keyOr s lent) e
+
+pub path-key-lent : (s lent zeros : List ℕ) (a : path.Answer) (key : List ℕ) (o : Outcome) → paths.outcome a ≡ o → key ≡ paths.keyOr s zeros o
+    → keyOfRecord a key lent ≡ paths.keyOr s lent o
+unfolding keyOfRecord paths.keyOr paths.outcome
+path-key-lent s lent zeros (path.the-variants.Record id at) key o e k = path-laws.key-found s key zeros lent id at o k e
+path-key-lent s lent zeros path.the-variants.Absent key o e k = ap (paths.keyOr s lent) e
+path-key-lent s lent zeros (path.the-variants.Refused r) key o e k = ap (paths.keyOr s lent) e
 
 -- the key of a text
 pub text-lent : (text : List ℕ) (k : ℕ) (key : List ℕ)

@@ -1,12 +1,17 @@
-// Root files.
+// Root files, and name hashes.
 use answers::roots::tell_found;
+use answers::roots::tell_hash;
+use answers::roots::tell_record;
 use crossing::tell_bytes;
 use crossing::tell_verdict;
 ghost use mathlib.Core.Path.{_≡_};
 ghost use lib.ListN.{length};
+ghost use Rattle.name_hash.specs.NameHash.{hashOutcome};
 ghost use Rattle.root.specs.Root.{rootCheck};
 ghost use Rattle.root.specs.Lookup.{lookupOf, keyOr};
 ghost use Rattle.root_find_many.specs.Many.{manyOutcome, manyOutput};
+ghost use Rattle.root_find_path.specs.Path as paths;
+ghost use Rattle.root_find_path.specs.Path.{pathLookup};
 ghost use Rattle.crossing.specs.Crossing.{Crosses, verdictOutcome};
 
 // The check of a whole root file.
@@ -50,4 +55,32 @@ pub extern "C" fn dwarnizza_root_find_many(
         root_find_many::find_many(file, ids, locale, unwanted, output),
         answer,
     )
+}
+
+// The record of a path: its id, the byte offset of its content key, and the key's bytes. Where none is found the key's bytes stay.
+#[no_mangle]
+pub extern "C" fn dwarnizza_root_find_path(
+    file: &[u8],
+    path: &[u8],
+    locale: u32,
+    unwanted: u64,
+    key: &mut [u8; 16],
+    answer: &mut [u64; 8],
+) -> u32
+    ensures { λ r. ⌜ Crosses (pathLookup (now (file .entry)) (now (path .entry)) locale unwanted) r (now (answer .exit)) ⌝ }
+    ensures { λ _. ⌜ now (key .exit) ≡ paths.keyOr (now (file .entry)) (now (key .entry)) (pathLookup (now (file .entry)) (now (path .entry)) locale unwanted) ⌝ }
+{
+    tell_record(
+        root_find_path::find_path(file, path, locale, unwanted),
+        key,
+        answer,
+    )
+}
+
+// The name hash of a path.
+#[no_mangle]
+pub extern "C" fn dwarnizza_name_hash(path: &[u8], answer: &mut [u64; 8]) -> u32
+    ensures { λ r. ⌜ Crosses (hashOutcome (now (path .entry))) r (now (answer .exit)) ⌝ }
+{
+    tell_hash(name_hash::hash(path), answer)
 }

@@ -20,12 +20,13 @@ use Rattle.refusal.specs.Outcome.{Outcome, answered, absent}
 use Rattle.refusal.proofs.Laws.{first-left, first-right, after-quiet}
 use Rattle.root_layout.specs.declared.Layout.{Layout}
 use Rattle.root_layout.specs.Header.{layoutOf}
-use Rattle.root_block.specs.Ids.{deltaAt, idAt, mostId, inRange}
+use Rattle.root_block.specs.Ids.{deltaAt, idAt, inRange, idsCheck}
 use Rattle.root_block.specs.Block as block
 use Rattle.root_block.specs.Block.{blockOf, deltasOf, blockCheck, counts}
 use Rattle.root_block.proofs.Laws.{block-ids}
-use Rattle.root_block.proofs.Signed.{reckoned, one-fits, reckoned-is, reckoned-fits}
-use Rattle.root_block.proofs.Reckoned.{idBefore, id-next, id-in-range, before-near}
+use Rattle.root_block.proofs.Signed.{reckoned}
+use Rattle.root_block.proofs.Reckoned as ids
+use Rattle.root_block.proofs.Reckoned.{idBefore, id-in-range}
 use Rattle.root.specs.Root.{blocksBy, blocksCheck, rootCheck}
 use Rattle.root.specs.Lookup.{Record, recordAt, recordsFrom, recordsIn, recordsBy, First, none, this, firstOf}
 use Rattle.root.specs.Lookup.{isId, wanted, foundIn, lookupOf, keyOr, outcome}
@@ -73,33 +74,27 @@ module _ (s : List ℕ) (l : Layout) (at n i last : ℕ)
     (before : toZ w64 last ≡ idBefore (deltasOf l (drop at s)) i)
     (e : blockCheck l (drop at s) at ≡ silent) (c : n ≡ blockOf l (drop at s) .count) (h : i < n)
     (r : ℤ) (small : mag r < 2147483648) where
-  near : mag (toZ w64 last) ≤ mostId
-  near =
-      subst (λ z. mag z ≤ mostId) (sym before)
-      (before-near (deltasOf l (drop at s)) (blockOf l (drop at s) .count) at (block-ids l (drop at s) at e) i (omega arith))
+  ids-pass : idsCheck (deltasOf l (drop at s)) (blockOf l (drop at s) .count) at ≡ silent
+  ids-pass = block-ids l (drop at s) at e
 
-  room : mostId + 2147483648 < 2 ^ 63
-  room = omega arith
+  less : i < blockOf l (drop at s) .count
+  less = omega arith
 
   pub before-fits : SFits w64 (toZ w64 last +ℤ pos 1)
-  before-fits = one-fits last r mostId near room small
+  before-fits = ids.last-fits _ _ at ids-pass i last before less r small
 
   pub record-fits : SFits w64 (reckoned last r)
-  record-fits = reckoned-fits last r mostId near room small
+  record-fits = ids.next-fits _ _ at ids-pass i last before less r small
 
   pub record-in-range : inRange (idAt (deltasOf l (drop at s)) i) ≡ true
-  record-in-range = id-in-range (deltasOf l (drop at s)) (blockOf l (drop at s) .count) at (block-ids l (drop at s) at e) i (omega arith)
+  record-in-range = id-in-range _ _ at ids-pass i less
 
   module _ (q : r ≡ deltaAt (deltasOf l (drop at s)) i) where
     pub next-is : reckoned last r ≡ idAt (deltasOf l (drop at s)) i
-    next-is =
-        reckoned-is last r mostId near room small
-        ∙ ap₂ (λ x y. x +ℤ pos 1 +ℤ y) before q
-        ∙ sym (id-next (deltasOf l (drop at s)) i)
+    next-is = ids.next-is _ _ at ids-pass i last before less r small q
 
     pub next-before : toZ w64 (ofZ w64 (reckoned last r)) ≡ idBefore (deltasOf l (drop at s)) (i + 1)
-    unfolding idBefore
-    next-before = toZ-ofZ record-fits ∙ next-is ∙ ap (idBefore (deltasOf l (drop at s))) (sym (add-one i))
+    next-before = ids.next-before _ _ at ids-pass i last before less r small q
 
 module _ {s : List ℕ} {l : Layout} {want : Record → Bool} {at n i last : ℕ}
     (p : Passing s l want at n i last)

@@ -5,8 +5,8 @@ use mathlib.Core.List.{List, [], _∷_, _++_}
 use Prim.Native.Nat.{ℕ, zero, suc, _+_, _≤_}
 use lib.Dec.{eqb}
 use lib.IntN.{ℤ, pos, negsuc}
-use lib.ListN.{length, drop}
-use Rattle.parts.specs.Part.{partAt}
+use lib.ListN.{length, drop, replicate}
+use Rattle.parts.specs.Part.{partAt, overlay}
 use Rattle.numbers.specs.Number.{littleAt}
 use Rattle.refusal.specs.Outcome.{Outcome, answered, absent, refusal, after}
 use Rattle.root_layout.specs.declared.Layout.{Layout}
@@ -84,6 +84,10 @@ lookupOf s id locale unwanted = after (rootCheck s) (foundIn (wanted id locale u
 -- The content key at a place of the file.
 abbrev pub keyAt : List ℕ → ℕ → List ℕ
 keyAt s at = partAt s at keySize
+
+-- The same by value: sixteen bytes, with zeros past the end of the file (rule G8).
+abbrev pub keyFrom : List ℕ → ℕ → List ℕ
+keyFrom s at = overlay (replicate keySize 0) 0 (keyAt s at)
 
 -- The bytes beside an answer: the content key (rule R16), and other bytes where none is found (rules G13, S4).
 unfoldable pub keyOr : (s other : List ℕ) → Outcome → List ℕ

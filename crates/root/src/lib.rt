@@ -10,8 +10,7 @@ use root_block::ids::delta;
 use root_layout::Layout;
 use root_layout::Opened;
 ghost use mathlib.Core.Path.{_≡_};
-ghost use Prim.Native.Nat.{_+_, _≤_};
-ghost use lib.ListN.{length, replicate};
+ghost use lib.ListN.{replicate};
 ghost use Rattle.refusal.specs.Check.{checkOf, silent};
 ghost use Rattle.root_layout.specs.Header as header;
 ghost use Rattle.root.specs.Root as spec;
@@ -101,10 +100,9 @@ fn search(file: &[u8], l: Layout, id: u32, locale: u32, unwanted: u64) -> Answer
     answer
 }
 
-// The content key that stands at a place.
-fn key_from(file: &[u8], at: usize) -> [u8; 16]
-    requires { ⌜ at + 16 ≤ length (now file) ⌝ }
-    ensures { λ r. ⌜ r ≡ lookup.keyAt (now (file .entry)) at ⌝ }
+// The content key at a place, with zeros past the end of the file.
+pub fn key_from(file: &[u8], at: usize) -> [u8; 16]
+    ensures { λ r. ⌜ r ≡ lookup.keyFrom (now (file .entry)) at ⌝ }
 {
     let mut key = [0u8; 16];
     copy(part(file, at, KEY_SIZE), &mut key, 0);

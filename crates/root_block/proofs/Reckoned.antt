@@ -1,5 +1,5 @@
 -- The ids of a block one after the other, each in its range.
-use mathlib.Core.Path.{_≡_, refl, sym, ap, ap₂, _∙_}
+use mathlib.Core.Path.{_≡_, refl, sym, ap, ap₂, _∙_, subst}
 use mathlib.Core.Bool.{Bool, true, false, not, false≢true}
 use mathlib.Core.List.{List, [], _∷_}
 use Prim.Native.Nat.{ℕ, zero, suc, _+_, _-_, _*_, _^_, _≤_, _<_}
@@ -104,3 +104,28 @@ module _ (d : List ℕ) (n place : ℕ) (e : idsCheck d n place ≡ silent) wher
   unfolding idBefore
   before-near zero h = omega arith
   before-near (suc i) h = near-range (idAt d i) (id-in-range i h)
+
+  -- the id of record i, as the code reckons it from the one before
+  module _ (i last : ℕ) (before : toZ w64 last ≡ idBefore d i) (h : i < n) (r : ℤ) (small : mag r < 2147483648) where
+    last-near : mag (toZ w64 last) ≤ mostId
+    last-near = subst (λ z. mag z ≤ mostId) (sym before) (before-near i (omega arith))
+
+    sum-room : mostId + 2147483648 < 2 ^ 63
+    sum-room = omega arith
+
+    pub last-fits : SFits w64 (toZ w64 last +ℤ pos 1)
+    last-fits = one-fits last r mostId last-near sum-room small
+
+    pub next-fits : SFits w64 (reckoned last r)
+    next-fits = reckoned-fits last r mostId last-near sum-room small
+
+    module _ (q : r ≡ deltaAt d i) where
+      pub next-is : reckoned last r ≡ idAt d i
+      next-is =
+          reckoned-is last r mostId last-near sum-room small
+          ∙ ap₂ (λ x y. x +ℤ pos 1 +ℤ y) before q
+          ∙ sym (id-next d i)
+
+      pub next-before : toZ w64 (ofZ w64 (reckoned last r)) ≡ idBefore d (i + 1)
+      unfolding idBefore
+      next-before = toZ-ofZ next-fits ∙ next-is ∙ ap (idBefore d) (sym (add-one i))

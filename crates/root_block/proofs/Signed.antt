@@ -1,16 +1,16 @@
 -- Laws of whole numbers as the code holds them: a number and its bits, and how far a sum can lie from 0.
 use mathlib.Core.Path.{_≡_, refl, sym, ap, ap₂, _∙_}
-use mathlib.Core.Bool.{Bool, true, false, not, cond}
+use mathlib.Core.Bool.{Bool, true, false, not, cond, false≢true}
 use Prim.Native.Nat.{ℕ, zero, suc, _+_, _-_, _^_, _≤_, _<_}
 use native.Mathlib.Nat.{le-trans, lt-of-le-of-lt}
 use native.Mathlib.Omega.{arith}
-use lib.Dec.{ltb, leb}
-use lib.IntN.{ℤ, pos, negsuc, sucℤ, subℕ, _+ℤ_, _-ℤ_, +ℤ-one}
-use lib.Signed.{mag, ltZ}
+use lib.Dec.{T, ltb, leb}
+use lib.IntN.{ℤ, pos, negsuc, natAbs, sucℤ, subℕ, _+ℤ_, _-ℤ_, +ℤ-one}
+use lib.Signed.{mag, ltZ, nonNeg}
 use mir.Syntax.{w32, w64}
-use mir.Val.{SFits, toZ, ofZ}
+use mir.Val.{Fits, SFits, toZ, ofZ}
 use mir.Facts.{toZ-ofZ, toZ-pos}
-use borrow.Author.Tests.{lt-ltb, le-ltb, le-leb, lt-leb, ltb-true, ltb-false}
+use borrow.Author.Tests.{lt-ltb, le-ltb, le-leb, lt-leb, ltb-true, ltb-false, leb-true}
 use Rattle.root_block.specs.Ids.{signBit, modulus, signed, mostId, inRange}
 
 -- ---- how far a sum lies from 0
@@ -107,3 +107,14 @@ pub within-range : (z : ℤ) → ltZ z (pos 0) ≡ false → ltZ (pos mostId) z 
 unfolding inRange
 within-range (pos n) e g = le-leb n mostId (ltb-false mostId n g)
 within-range (negsuc n) e g = sym e
+
+-- an id in its range is a number of 32 bits
+pub range-fits : (z : ℤ) → inRange z ≡ true → T (nonNeg z) × Fits w32 (natAbs z)
+unfolding inRange
+range-fits (pos n) e = (tt, record { fits = omega (arith, leb-true n mostId e) })
+range-fits (negsuc n) e = absurd (false≢true e)
+
+pub range-pos : (z : ℤ) → inRange z ≡ true → pos (natAbs z) ≡ z
+unfolding inRange
+range-pos (pos n) e = refl
+range-pos (negsuc n) e = absurd (false≢true e)

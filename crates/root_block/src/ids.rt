@@ -19,7 +19,7 @@ pub const SIGN_BIT: u32 = 2_147_483_648;
 pub const MODULUS: i64 = 4_294_967_296;
 
 // The number of four little-endian bytes.
-fn number_of(a: u8, b: u8, c: u8, d: u8) -> u32
+pub fn number_of(a: u8, b: u8, c: u8, d: u8) -> u32
     ensures { λ r. ⌜ r ≡ littleAt (a ∷ b ∷ c ∷ d ∷ []) 0 4 ⌝ }
 {
     a as u32 + 256 * b as u32 + 65_536 * c as u32 + 16_777_216 * d as u32

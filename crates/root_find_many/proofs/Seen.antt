@@ -24,7 +24,7 @@ use Rattle.root_block.specs.Block as block
 use Rattle.root_block.specs.Block.{blockOf, deltasOf, blockCheck, counts}
 use Rattle.root_block.specs.declared.Block.{Block}
 use Rattle.root_block.proofs.Laws.{block-fits, deltas-length, key-inside}
-use Rattle.root_block.proofs.Signed.{reckoned}
+use Rattle.root_block.proofs.Signed.{reckoned, range-fits}
 use Rattle.root_block.proofs.Reckoned.{idBefore}
 use Rattle.root.specs.Root.{sizeAt, blocksAfter, blocksBy, blocksCheck}
 use Rattle.root.specs.Lookup.{Record, recordAt, recordsFrom, recordsIn, recordsBy, First, none, this, firstOf, isId, wanted, keyTold, keyOr}
@@ -76,11 +76,6 @@ is-id : (id : ℕ) (z : ℤ) → inRange z ≡ true → isId id z ≡ eqb id (of
 unfolding isId inRange
 is-id id (pos n) e = same-turned n id
 is-id id (negsuc n) e = absurd (false≢true e)
-
-cast-in : (z : ℤ) → inRange z ≡ true → T (nonNeg z) × Fits w32 (natAbs z)
-unfolding inRange
-cast-in (pos n) e = (tt, record { fits = omega (arith, leb-true n mostId e) })
-cast-in (negsuc n) e = absurd (false≢true e)
 
 cast-is : (z : ℤ) → inRange z ≡ true → natAbs z ≡ ofZ w64 z
 unfolding inRange
@@ -173,7 +168,7 @@ module _ {s : List ℕ} {l : Layout} {at i last : ℕ} {ids old new : List ℕ} 
     in-range = record-in-range s l at n i last (p .before) e c h r small
 
     pub id-fits : T (nonNeg (toZ w64 (ofZ w64 (reckoned last r)))) × Fits w32 (natAbs (toZ w64 (ofZ w64 (reckoned last r))))
-    id-fits = subst (λ z. T (nonNeg z) × Fits w32 (natAbs z)) (sym held-id) (cast-in _ in-range)
+    id-fits = subst (λ z. T (nonNeg z) × Fits w32 (natAbs z)) (sym held-id) (range-fits _ in-range)
 
     record-id : natAbs (toZ w64 (ofZ w64 (reckoned last r))) ≡ ofZ w64 (recordAt s l at i .id)
     record-id = ap natAbs held-id ∙ cast-is _ in-range

@@ -14,7 +14,7 @@ use Rattle.root.specs.declared.Answer.{Answer}
 use Rattle.root.specs.declared.Answer.the-variants.{Key, Absent, Refused}
 use Rattle.root.specs.Lookup.{lookupOf, keyOr, outcome}
 use Rattle.root.proofs.Answer.{the-type}
-use Rattle.root.proofs.First.{root-passed, search-is}
+use Rattle.root.proofs.First.{root-passed, search-is, key-laid}
 use borrow.Author.Needs.{needs}
 use Rattle.root.proofs.lookup.Statement.{statement}
 use Rattle.root.proofs.lookup.Tie as tie
@@ -50,9 +50,6 @@ told c b e =
 search-requires : tie.Need-search-requires
 search-requires c κs = let i = judged (c .before) in root-passed _ _ (i .0) (i .1)
 
-key-from-requires : tie.Need-key-from-requires
-key-from-requires c κs = c .before .before .before .search .ensures .1 _ (c .before .answer .given .1)
-
 returns : tie.Need-returns
 unfolding outcome lookupOf keyOr
 returns c =
@@ -60,7 +57,8 @@ returns c =
     let search = answer .before .before in
     let s = start-at (layout-at search .before .before) .args .file .now in
     let o = told search _ (answer .answer .given .1) in
-    (o, c .key-from .ensures ∙ ap (keyOr s (replicate 16 0)) o)
+    let whole = search .search .ensures .1 _ (answer .answer .given .1) in
+    (o, c .key-from .ensures ∙ key-laid s _ whole ∙ ap (keyOr s (replicate 16 0)) o)
 
 returns-2 : tie.Need-returns-2
 unfolding outcome lookupOf keyOr
@@ -87,7 +85,7 @@ lookup-spec =
     (λ c. search needs)
     search-requires
     (λ c. search needs)
-    key-from-requires
+    (λ c κs. search needs)
     returns
     returns-2
     returns-3)
