@@ -13,6 +13,7 @@ pub mod index;
 pub mod key;
 pub mod md5;
 pub mod md5_suite;
+pub mod name_hash;
 mod number;
 pub mod refusal;
 pub mod root;

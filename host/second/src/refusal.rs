@@ -189,6 +189,9 @@ pub fn hex_digit(digit: usize) -> Refusal {
 /// Listing input above 65,536 bytes.
 pub const LISTING_INPUT: Refusal = refusal(70);
 
+/// Path above 1,024 bytes.
+pub const PATH_LENGTH: Refusal = refusal(110);
+
 /// Id below the one before.
 pub fn list_falls(id: usize) -> Refusal {
     refusal_at(161, id)

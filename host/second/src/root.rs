@@ -2,10 +2,12 @@
 
 mod layout;
 mod many;
+mod path;
 mod write;
 
 pub use layout::{Layout, MAGICS, NO_NAME_HASHES};
 pub use many::{find_many, find_many_into};
+pub use path::find_path;
 pub use write::{BlockParts, Header, Record, write};
 
 use std::iter;
@@ -118,6 +120,17 @@ impl<'a> Block<'a> {
 
     fn counts(&self, locale: u32, unwanted: u64) -> bool {
         self.locale & locale != 0 && u64::from(self.content) & unwanted == 0
+    }
+
+    /// The name hashes of the block's records; none where the block has no name hashes.
+    fn name_hashes(&self) -> impl Iterator<Item = [u8; NAME_HASH]> {
+        let (first, step) = if self.key_step == KEY {
+            (self.deltas.len() * KEY, NAME_HASH)
+        } else {
+            (KEY, self.key_step)
+        };
+        let places = (self.keys + first..self.bytes.len()).step_by(step);
+        places.map(|at| array(&self.bytes[at..]))
     }
 
     /// The key of a record.

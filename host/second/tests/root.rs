@@ -1,9 +1,10 @@
 //! Root files by the second program.
 
+use second::name_hash::name_hash;
 use second::refusal::{self, Refusal};
 use second::root::{
     BlockParts, Found, Header, Layout, MAGICS, NO_NAME_HASHES, Record, check, find, find_many,
-    find_many_into, write,
+    find_many_into, find_path, write,
 };
 
 const ALL: u32 = u32::MAX;
@@ -292,4 +293,86 @@ fn many_ids_refused() {
     );
     let cut = &file[..file.len() - 1];
     assert_eq!(find_many(cut, &falling, 1, 0), Err(refusal::block_cut(0)));
+}
+
+/// The block with the name hashes of these paths.
+fn named(mut block: BlockParts, paths: &[&str]) -> BlockParts {
+    for (record, path) in block.records.iter_mut().zip(paths) {
+        record.name_hash = name_hash(path.as_bytes()).unwrap().to_le_bytes();
+    }
+    block
+}
+
+/// Each path is found at its first record among the blocks that count: id, key and place.
+#[test]
+fn paths() {
+    let blocks = [
+        named(block(1, 0, 7, &[5, -3, 4]), &["a/x", "a/y", "A\\X"]),
+        named(block(2, 1, 20, &[9, 0]), &["b", "a/y"]),
+        named(block(3, 2, 30, &[0, 0]), &["b", ""]),
+    ];
+    for header in [None, header(1, 1), header(20, 2), header(99, 3)] {
+        let file = write(header, &blocks);
+        let found = |path: &str, locale, unwanted| {
+            let found = find_path(&file, path.as_bytes(), locale, unwanted).unwrap();
+            found.map(|(id, Found { key, place })| {
+                assert_eq!(file[place..place + 16], key);
+                (id, key[0])
+            })
+        };
+        assert_eq!(found("a/x", ALL, 0), Some((5, 7)));
+        assert_eq!(found("A\\x", 1, 0), Some((5, 7)));
+        assert_eq!(found("a/x", 2, 0), None);
+        assert_eq!(found("a/y", ALL, 0), Some((3, 8)));
+        assert_eq!(found("a/y", 2, 0), Some((10, 21)));
+        assert_eq!(found("a/y", 2, 1), None);
+        assert_eq!(found("b", ALL, 0), Some((9, 20)));
+        assert_eq!(found("b", ALL, 1), Some((0, 30)));
+        assert_eq!(found("", ALL, 0), Some((1, 31)));
+        assert_eq!(found("a", ALL, 0), None);
+    }
+}
+
+/// A block without name hashes has none, though the bytes behind it are those of one.
+#[test]
+fn blocks_without_name_hashes() {
+    let hash = name_hash(b"a").unwrap().to_le_bytes();
+    let mut bare = block(1, NO_NAME_HASHES, 7, &[5, 0]);
+    // Wherever a name hash is looked for in the block, there is one.
+    for record in &mut bare.records {
+        record.key = [hash, hash].concat().try_into().unwrap();
+    }
+    let blocks = [bare, named(block(1, 0, 9, &[6]), &["a"])];
+    let file = write(header(1, 1), &blocks);
+    let found = |unwanted| find_path(&file, b"a", 1, unwanted).unwrap();
+    assert_eq!(
+        found(0).map(|(id, found)| (id, found.key)),
+        Some((6, [9; 16]))
+    );
+    assert_eq!(
+        find_path(&write(header(1, 1), &blocks[..1]), b"a", 1, 0),
+        Ok(None)
+    );
+    // In version 1 the flag means nothing.
+    let named = [named(block(1, NO_NAME_HASHES, 7, &[5]), &["a"])];
+    let (id, _) = find_path(&write(None, &named), b"a", 1, 0)
+        .unwrap()
+        .unwrap();
+    assert_eq!(id, 5);
+}
+
+/// 110 comes first, then the root's own refusals.
+#[test]
+fn paths_refused() {
+    let long = [b'a'; 1025];
+    for file in [&b"TSFM"[..], b"", &[0; 13]] {
+        assert_eq!(find_path(file, &long, 1, 0), Err(refusal::PATH_LENGTH));
+        assert_eq!(
+            find_path(file, &long[..1024], 1, 0).err(),
+            check(file).err()
+        );
+    }
+    let blocks = [named(block(1, 0, 7, &[5]), &["a"]), block(0, 0, 8, &[-1])];
+    let file = write(None, &blocks);
+    assert_eq!(find_path(&file, b"a", 1, 0), Err(refusal::id_range(40)));
 }
