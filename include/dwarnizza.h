@@ -108,6 +108,7 @@ enum {
     X(DWARNIZZA_FOOTER_SIZE_WIDTH, 106, "footer size width wrong", "footer byte") \
     X(DWARNIZZA_FOOTER_KEY_LENGTH, 107, "footer key length wrong", "footer byte") \
     X(DWARNIZZA_FOOTER_HASH_LENGTH, 108, "footer hash length wrong", "footer byte") \
+    X(DWARNIZZA_PATH_LENGTH, 110, "path above 1,024 bytes", "") \
     X(DWARNIZZA_LIST_FALLS, 161, "list falls", "id")
 
 enum {
@@ -554,7 +555,7 @@ uint32_t dwarnizza_encoding_spec(const uint8_t *file, size_t file_len,
  * Root file
  *
  * A root file, taken out of its envelope, gives content keys for file numbers
- * (FileDataIDs). It is a header and blocks; numbers are little-endian. A header
+ * (FileDataIDs) and for paths. It is a header and blocks; numbers are little-endian. A header
  * starts with "MFST" or "TSFM" and two numbers, a and b. Where a is 16 to 99 and
  * b is 2, 3 or 4, the header has a bytes, and b is the version, of which 4 is
  * refused; else it has 12. A file that starts otherwise has no header and is of
@@ -613,6 +614,32 @@ uint32_t dwarnizza_root_find_many(const uint8_t *file, size_t file_len,
                                   uint32_t locale, uint64_t unwanted,
                                   uint8_t *output, size_t output_len,
                                   uint64_t answer[8]);
+
+/*
+ * The name hash of a path, which may be any bytes. Of these, a to z become their
+ * capitals and slashes become backslashes; all others stay, those above 127 too.
+ * Their hash is Bob Jenkins' hashlittle2 with both starting values 0: its result
+ * c is the upper half of the name hash, b the lower.
+ * Answered: answer[0] is the name hash.
+ * Refused: 110 where path_len is above 1024.
+ */
+uint32_t dwarnizza_name_hash(const uint8_t *path, size_t path_len,
+                             uint64_t answer[8]);
+
+/*
+ * The id and the content key of a path: those of the first record whose name
+ * hash is that of the path, as dwarnizza_name_hash gives it, in the order of the
+ * file, in the blocks that have name hashes and count as for
+ * dwarnizza_root_find.
+ * Answered: it is found; key is written, answer[0] is the id, and answer[1] is
+ * the key's place in the file.
+ * Absent: key keeps its bytes; no word of the answer is named.
+ * Refused: 110 where path_len is above 1024; then as the full check refuses.
+ */
+uint32_t dwarnizza_root_find_path(const uint8_t *file, size_t file_len,
+                                  const uint8_t *path, size_t path_len,
+                                  uint32_t locale, uint64_t unwanted,
+                                  uint8_t key[16], uint64_t answer[8]);
 
 /*
  * Chain

@@ -50,6 +50,7 @@ mod key;
 #[expect(unsafe_code, reason = "the only module that calls C")]
 mod library;
 mod md5;
+mod name_hash;
 mod refusal;
 pub mod root;
 pub mod worklist;
@@ -61,6 +62,7 @@ pub use file_number::{NotFileNumber, NumberFault, file_number};
 pub use index::{CheckedIndex, Index, UncheckedIndex};
 pub use key::Key;
 pub use md5::{Md5, md5};
+pub use name_hash::name_hash;
 pub use refusal::{Link, Reason, Refusal, Subject};
 pub use root::{CheckedRoot, Root};
 pub use worklist::Worklist;

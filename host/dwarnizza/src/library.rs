@@ -271,6 +271,32 @@ pub fn root_find_many(
     })
 }
 
+pub fn name_hash(path: &[u8]) -> Answered {
+    answered(one_input(ffi::dwarnizza_name_hash, path))
+}
+
+pub fn root_find_path(
+    file: &[u8],
+    path: &[u8],
+    locale: u32,
+    unwanted: u64,
+    key: &mut [u8; 16],
+) -> Searched {
+    // SAFETY: each pointer and length are those of one slice.
+    searched(|answer| unsafe {
+        ffi::dwarnizza_root_find_path(
+            file.as_ptr(),
+            file.len(),
+            path.as_ptr(),
+            path.len(),
+            locale,
+            unwanted,
+            key,
+            answer,
+        )
+    })
+}
+
 /// The files are root, encoding file and index.
 pub fn resolve(files: [&[u8]; 3], id: u32, locale: u32, unwanted: u64) -> Searched {
     let [root, encoding, index] = files;

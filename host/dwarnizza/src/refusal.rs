@@ -113,6 +113,7 @@ reasons! {
     FooterSizeWidth = 106, IndexOpening, "footer size width wrong", "footer byte";
     FooterKeyLength = 107, IndexOpening, "footer key length wrong", "footer byte";
     FooterHashLength = 108, IndexOpening, "footer hash length wrong", "footer byte";
+    PathLength = 110, Call, "path above 1,024 bytes";
     ListFalls = 161, Call, "list falls", "id";
 }
 
@@ -138,7 +139,7 @@ pub enum Subject {
     Encoding,
     /// A root file.
     Root,
-    /// What a call was given beside a file: a key, a text, settings, a list, or an output.
+    /// What a call was given beside a file: a key, a text, a path, settings, a list, or an output.
     Call,
 }
 

@@ -1,4 +1,4 @@
-//! Root files: for each file number (FileDataID) a content key.
+//! Root files: for each file number (FileDataID) a content key, and for paths both.
 //!
 //! A file is given as it is taken out of its envelope.
 //!
@@ -11,7 +11,7 @@
 //! # Ok::<(), Box<dyn std::error::Error>>(())
 //! ```
 
-use crate::answer::{size, unrefused};
+use crate::answer::{number, size, unrefused};
 use crate::library;
 use crate::refusal::Refusal;
 
@@ -85,6 +85,31 @@ pub struct Record {
     pub place: usize,
 }
 
+/// The record of a path.
+///
+/// ```
+/// use dwarnizza::{Root, name_hash};
+///
+/// // One block of version 1, with the id 5.
+/// let mut file = [1, 0, 2, 5].map(u32::to_le_bytes).concat();
+/// file.extend([7; 16]);
+/// file.extend(name_hash(b"horn.ogg")?.to_le_bytes());
+///
+/// let record = Root::check(&file)?.find_path(b"HORN.OGG", 0x2, 0)?.expect("it is there");
+/// assert_eq!(record.id, 5);
+/// assert_eq!(file[record.place..][..16], record.key);
+/// # Ok::<(), dwarnizza::Refusal>(())
+/// ```
+#[derive(Clone, Copy, Debug, PartialEq, Eq)]
+pub struct PathRecord {
+    /// The file number.
+    pub id: u32,
+    /// The content key.
+    pub key: [u8; 16],
+    /// Where the key stands in the root file.
+    pub place: usize,
+}
+
 impl<'a> CheckedRoot<'a> {
     /// The file.
     ///
@@ -128,6 +153,7 @@ impl<'a> CheckedRoot<'a> {
             place: size(place),
         })
     }
+
     /// The content keys of many ids, each as [`find`](Self::find) finds it, in one pass over the
     /// file; none for an id that is absent. The ids rise, and neighbours may be equal.
     ///
@@ -160,6 +186,47 @@ impl<'a> CheckedRoot<'a> {
         library::root_find_many(self.file, &list, locale, unwanted, &mut output)?;
         let (answers, _) = output.as_chunks::<FOUND>();
         Ok(answers.iter().map(|&answer| key_found(answer)).collect())
+    }
+
+    /// The first record, in file order, whose name hash is that of the path
+    /// ([`name_hash`](crate::name_hash)), in the blocks that have name hashes and that
+    /// [`find`](Self::find) looks into with these masks; none where it is absent.
+    ///
+    /// Refused with [`PathLength`] where the path has more than 1,024 bytes.
+    ///
+    /// ```
+    /// use dwarnizza::{Reason, Root, name_hash};
+    ///
+    /// // A version 1 file of one block, without content flags and for the locale enUS: the id 5
+    /// // has a content key of sevens.
+    /// let mut file = [1, 0, 2, 5].map(u32::to_le_bytes).concat();
+    /// file.extend([7; 16]);
+    /// file.extend(name_hash(br"Sound\Horn.ogg")?.to_le_bytes());
+    ///
+    /// let root = Root::check(&file)?;
+    /// let record = root.find_path(b"sound/horn.ogg", 0x2, 0)?.expect("it is there");
+    /// assert_eq!((record.id, record.key, record.place), (5, [7; 16], 16));
+    /// assert_eq!(root.find_path(b"sound/drum.ogg", 0x2, 0)?, None);
+    ///
+    /// let refused = root.find_path(&[b'a'; 1025], 0x2, 0).unwrap_err();
+    /// assert_eq!(refused.reason, Reason::PathLength);
+    /// # Ok::<(), dwarnizza::Refusal>(())
+    /// ```
+    ///
+    /// [`PathLength`]: crate::Reason::PathLength
+    pub fn find_path(
+        self,
+        path: &[u8],
+        locale: u32,
+        unwanted: u64,
+    ) -> Result<Option<PathRecord>, Refusal> {
+        let mut key = [0; 16];
+        let search = library::root_find_path(self.file, path, locale, unwanted, &mut key)?;
+        Ok(search.found().map(|[id, place, ..]| PathRecord {
+            id: number(id),
+            key,
+            place: size(place),
+        }))
     }
 }
 

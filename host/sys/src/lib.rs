@@ -197,6 +197,19 @@ unsafe extern "C" {
         answer: &mut [u64; 8],
     ) -> u32;
 
+    pub fn dwarnizza_name_hash(path: *const u8, path_len: usize, answer: &mut [u64; 8]) -> u32;
+
+    pub fn dwarnizza_root_find_path(
+        file: *const u8,
+        file_len: usize,
+        path: *const u8,
+        path_len: usize,
+        locale: u32,
+        unwanted: u64,
+        key: &mut [u8; 16],
+        answer: &mut [u64; 8],
+    ) -> u32;
+
     pub fn dwarnizza_resolve(
         root: *const u8,
         root_len: usize,

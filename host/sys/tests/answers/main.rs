@@ -8,5 +8,6 @@ mod file_number;
 mod index;
 mod key;
 mod md5;
+mod name_hash;
 mod root;
 mod worklist;

@@ -1,12 +1,17 @@
-use dwarnizza_sys::{dwarnizza_root_check, dwarnizza_root_find, dwarnizza_root_find_many};
+use dwarnizza_sys::{
+    dwarnizza_root_check, dwarnizza_root_find, dwarnizza_root_find_many, dwarnizza_root_find_path,
+};
 use second::root::{BlockParts, Header, Layout, Record};
 
 use crate::call::{ABSENT, Answer, answer, answered, one_input, refused};
 
 const UNTOUCHED: [u8; 16] = [0xee; 16];
 
+/// The name hash of `a/B`.
+const NAME_HASH: u64 = 0x98e9_b8ae_6c3b_a87e;
+
 /// A short header and two blocks, for the locales 1 and 2: the id 5 has a key of sevens in the
-/// first and, with content flag 1, of eights in the second.
+/// first and, with content flag 1, of eights in the second. Both have the name hash of `a/B`.
 fn file() -> Vec<u8> {
     let block = |locale, content, key| BlockParts {
         locale,
@@ -15,7 +20,7 @@ fn file() -> Vec<u8> {
         records: vec![Record {
             delta: 5,
             key: [key; 16],
-            name_hash: [0; 8],
+            name_hash: NAME_HASH.to_le_bytes(),
         }],
     };
     second::root::write(Some(HEADER), &[block(1, 0, 7), block(2, 1, 8)])
@@ -161,4 +166,70 @@ fn many_ids_refuse_in_order() {
     falling.push(0);
     expect(&file, &falling, 39, 12, 0);
     expect(&file[..file.len() - 1], &falling, 39, 40, second_block());
+}
+
+/// The answer, and the key that was lent.
+fn find_path(file: &[u8], path: &[u8], locale: u32, unwanted: u64) -> (Answer, [u8; 16]) {
+    let mut key = UNTOUCHED;
+    let (start, length) = (file.as_ptr(), file.len());
+    let (path, path_length) = (path.as_ptr(), path.len());
+    // SAFETY: each pointer and length are those of one slice.
+    let answer = answer(|answer| unsafe {
+        dwarnizza_root_find_path(
+            start,
+            length,
+            path,
+            path_length,
+            locale,
+            unwanted,
+            &mut key,
+            answer,
+        )
+    });
+    (answer, key)
+}
+
+#[test]
+fn a_path_has_id_place_and_key() {
+    let file = file();
+    let blocks = [12, second_block()];
+    for (locale, block, key) in [(1, 0, [7; 16]), (2, 1, [8; 16]), (3, 0, [7; 16])] {
+        let place = (blocks[block] + block_header() + 4) as u64;
+        let found = ((0, [5, place, 0, 0, 0, 0, 0, 0]), key);
+        for path in [b"a/B", b"A\\b"] {
+            assert_eq!(find_path(&file, path, locale, 0), found);
+        }
+    }
+    for (path, locale, unwanted) in [
+        (&b"a"[..], 3, 0),
+        (b"", 3, 0),
+        (b"a/b", 4, 0),
+        (b"a/b", 2, 1),
+    ] {
+        assert_eq!(
+            find_path(&file, path, locale, unwanted),
+            (ABSENT, UNTOUCHED)
+        );
+    }
+}
+
+/// Each refusal comes before those after it, and keeps the key.
+#[test]
+fn a_path_refuses_in_order() {
+    let mut file = file();
+    let (long, longest) = ([b'a'; 1025], [b'a'; 1024]);
+    let expect = |file: &[u8], path: &[u8], number: u64, place: usize| {
+        let kept = (refused(number, place as u64), UNTOUCHED);
+        assert_eq!(find_path(file, path, 1, 0), kept);
+    };
+    assert_eq!(find_path(&file, &longest, 1, 0), (ABSENT, UNTOUCHED));
+    expect(&file, &long, 110, 0);
+    expect(&file[..file.len() - 1], b"a/b", 40, second_block());
+    // The sign of the second block's delta.
+    file[second_block() + block_header() + 3] = 0x80;
+    expect(&file, b"a/b", 41, second_block());
+    file[4] = 20;
+    file[8] = 4;
+    expect(&file, &longest, 44, 0);
+    expect(&file, &long, 110, 0);
 }

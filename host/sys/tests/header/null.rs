@@ -185,6 +185,19 @@ fn file_numbers(none: Pointers) -> Vec<Case> {
     ]
 }
 
+/// Paths. The name hash of the empty one stands in no record of the root file.
+fn paths(none: Pointers) -> Vec<Case> {
+    let (root, path, mut key) = (sample("root-v1"), *b"a", [0; 16]);
+    let (r, r_len) = (root.as_ptr(), root.len());
+    let (p, path, key) = (none.input, path.as_ptr(), &mut key);
+    vec![
+        case!(dwarnizza_name_hash(p, 0), [path] => answered(0xdead_beef_dead_beef)),
+        case!(dwarnizza_root_find_path(p, 0, path, 1, !0, 0, key), [file] => ABSENT),
+        case!(dwarnizza_root_find_path(r, r_len, p, 0, !0, 0, key), [path] => ABSENT),
+        case!(dwarnizza_root_find_path(p, 0, p, 0, !0, 0, key), [file, path] => ABSENT),
+    ]
+}
+
 /// Lists of file numbers, and the texts that they come as.
 fn worklists(none: Pointers) -> Vec<Case> {
     let (root, mut output) = (sample("root-v1"), [0; 20]);
@@ -218,6 +231,7 @@ fn cases(none: Pointers) -> Vec<Case> {
         envelopes,
         encodings,
         file_numbers,
+        paths,
         worklists,
     ]
     .into_iter()
