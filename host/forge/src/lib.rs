@@ -1,6 +1,6 @@
 //! Files for tests and the fuzzer, made by the second program's writers: good ones of random
 //! contents, their damage and repair, files with chosen faults, indexes of
-//! counted entries, and small files.
+//! counted entries, small files, and paths.
 
 #![forbid(unsafe_code)]
 
@@ -8,6 +8,7 @@ pub mod build;
 pub mod counted;
 pub mod damage;
 pub mod faults;
+pub mod paths;
 pub mod random;
 pub mod repair;
 pub mod small;

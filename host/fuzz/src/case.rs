@@ -7,6 +7,7 @@ mod index;
 mod key_text;
 mod list;
 mod md5;
+mod path;
 mod root;
 mod worklist;
 

@@ -3,6 +3,7 @@
 use second::root::{BlockParts, Header, Layout, MAGICS, NO_NAME_HASHES, Record, write};
 
 use crate::damage::Place;
+use crate::paths::put_names;
 use crate::random::Random;
 
 /// A root file and the ids in it.
@@ -22,9 +23,24 @@ impl Root {
     pub fn new(random: &mut Random, content_keys: &[u8]) -> Self {
         let header = header(random);
         let count = random.within(0..=5);
-        let blocks: Vec<_> = (0..count).map(|_| block(random, content_keys)).collect();
-        let mut places = Vec::with_capacity(count);
-        for first in 0..count {
+        let blocks = (0..count).map(|_| block(random, content_keys));
+        Self::of(header, blocks.collect())
+    }
+
+    /// A file of up to five blocks. Its records mostly have the name hashes of these paths.
+    pub fn named(random: &mut Random, paths: &[Vec<u8>]) -> Self {
+        let header = header(random);
+        let count = random.within(0..=5);
+        let mut blocks: Vec<_> = (0..count).map(|_| block(random, &[])).collect();
+        for block in &mut blocks {
+            put_names(random, block, paths);
+        }
+        Self::of(header, blocks)
+    }
+
+    fn of(header: Option<Header>, blocks: Vec<BlockParts>) -> Self {
+        let mut places = Vec::with_capacity(blocks.len());
+        for first in 0..blocks.len() {
             let at = write(header, &blocks[..first]).len();
             places.push((at, blocks[first].records.len()));
         }

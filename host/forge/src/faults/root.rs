@@ -3,7 +3,12 @@
 use second::refusal::{self, Refusal};
 use second::root::{BlockParts, Header, Layout, MAGICS, NO_NAME_HASHES, Record, write};
 
+use crate::paths::put_names;
 use crate::random::Random;
+
+/// The content flags that drop the name hashes by one source or another: bit 13 by 004, bit 28 by
+/// 000. A block without either has them by all.
+const NO_NAME_HASHES_BY_ANY: u32 = NO_NAME_HASHES | 1 << 28;
 
 /// The first id of the upper half of the range.
 const MIDDLE: i64 = 1 << 31;
@@ -48,6 +53,18 @@ impl RootFile {
         let most = [1, 3, 3, 10][random.up_to(3)];
         let blocks = (0..random.up_to(most)).map(|_| random_block(random));
         Self::new(header, blocks.collect())
+    }
+
+    /// A good file of version 1 or with a long header, whose blocks all have name hashes, mostly
+    /// those of these paths.
+    pub fn named(random: &mut Random, paths: &[Vec<u8>]) -> Self {
+        let header = [None, Some(long_header(random))][random.up_to(1)];
+        let mut blocks = Self::random(random).blocks;
+        for block in &mut blocks {
+            block.content &= !NO_NAME_HASHES_BY_ANY;
+            put_names(random, block, paths);
+        }
+        Self::new(header, blocks)
     }
 
     /// Where a block starts; with the number of all blocks, where the last ends.
@@ -137,6 +154,15 @@ impl RootFile {
     /// Puts a number in four bytes.
     fn put(&mut self, at: usize, number: u32) {
         self.bytes[at..at + 4].copy_from_slice(&number.to_le_bytes());
+    }
+}
+
+/// Either magic with a good long header.
+fn long_header(random: &mut Random) -> Header {
+    Header {
+        magic: random.pick(&MAGICS),
+        a: random.within(20..=99) as u32,
+        b: random.pick(&[2, 3]),
     }
 }
 

@@ -1,6 +1,6 @@
 //! A root file.
 
-use super::Compared;
+use super::{Compared, path};
 use crate::compare::{Comparison, Output};
 use crate::export::{Given, ROOT_CHECK, ROOT_FIND, ROOT_FIND_MANY};
 use forge::build::{Root, flags};
@@ -21,7 +21,8 @@ pub fn compare(random: &mut Random, comparison: &mut Comparison) -> Compared {
     let given = Given::new([&file, &ids], [locale, unwanted]);
     let length = room(20 * (ids.len() / 4), random);
     comparison.call(&ROOT_FIND_MANY, &given, Output::Bytes(length))?;
-    Ok(())
+    // Last, so that the calls before it are those of earlier versions.
+    path::compare(random, comparison)
 }
 
 /// A list of ids that rises, with equal neighbours; rarely one that falls, or that is not whole.
@@ -47,6 +48,12 @@ pub fn wanted(random: &mut Random, ids: &[u32]) -> [u64; 3] {
         _ if random.one_in(5) => random.number(32),
         _ => random.pick(ids).into(),
     };
+    let [locale, unwanted] = masks(random);
+    [id, locale, unwanted]
+}
+
+/// Locale mask and mask of unwanted content, likewise.
+pub fn masks(random: &mut Random) -> [u64; 2] {
     let locale = match random.within(0..=3) {
         0 => flags(random).into(),
         _ => 2,
@@ -56,5 +63,5 @@ pub fn wanted(random: &mut Random, ids: &[u32]) -> [u64; 3] {
         1 => u64::from(flags(random)) << 32,
         _ => 0,
     };
-    [id, locale, unwanted]
+    [locale, unwanted]
 }

@@ -6,6 +6,7 @@ use dwarnizza_sys as sys;
 use second::chain::{Build, Link, Refused, Resolved};
 use second::file_number::{Fault, NotFileNumber, file_number};
 use second::index::{FOOTER, Settings};
+use second::name_hash::name_hash;
 use second::{chain, encoding, envelope, index, key, md5, root, worklist};
 
 use super::library::{Function, State, bytes_16};
@@ -20,7 +21,7 @@ const OPENING: RangeInclusive<u32> = 3..=5;
 const PAGES: RangeInclusive<u32> = 6..=9;
 
 /// All of them.
-pub static ALL: [&Export; 33] = [
+pub static ALL: [&Export; 35] = [
     &MD5,
     &MD5_START,
     &MD5_UPDATE,
@@ -48,6 +49,8 @@ pub static ALL: [&Export; 33] = [
     &ROOT_CHECK,
     &ROOT_FIND,
     &ROOT_FIND_MANY,
+    &NAME_HASH,
+    &ROOT_FIND_PATH,
     &RESOLVE,
     &KEY_TEXT,
     &WORKLIST_ROW,
@@ -493,17 +496,17 @@ pub static ROOT_FIND: Export = Export {
 pub static ROOT_FIND_MANY: Export = Export {
     name: "dwarnizza_root_find_many",
     inputs: &["root", "ids"],
-    numbers: &["locale", "unwanted"],
+    numbers: MASKS,
     // SAFETY: file and ids are slices, and the output is lent.
     library: Function::Other(|given, lent| unsafe {
         let ((file, file_len), (ids, ids_len)) = (given.lent(0), given.lent(1));
-        let [locale, unwanted, ..] = given.numbers;
+        let (locale, unwanted) = masks(given);
         sys::dwarnizza_root_find_many(
             file,
             file_len,
             ids,
             ids_len,
-            locale as u32,
+            locale,
             unwanted,
             lent.output,
             lent.length,
@@ -511,11 +514,51 @@ pub static ROOT_FIND_MANY: Export = Export {
         )
     }),
     second: |given, output| {
-        let ([file, ids, _], [locale, unwanted, ..]) = (given.bytes, given.numbers);
-        let masks = (locale as u32, unwanted);
-        Said::of_length(root::find_many_into(file, ids, masks, output))
+        let [file, ids, _] = given.bytes;
+        Said::of_length(root::find_many_into(file, ids, masks(given), output))
     },
     refusals: &[12..=13, 40..=44, 161..=161],
+};
+
+/// The name hash of a path.
+pub static NAME_HASH: Export = Export {
+    name: "dwarnizza_name_hash",
+    inputs: &["path"],
+    numbers: &[],
+    library: Function::File(sys::dwarnizza_name_hash),
+    second: |given, _| Said::of(name_hash(given.bytes[0]), |hash| [hash]),
+    refusals: &[110..=110],
+};
+
+/// The id and the content key of a path.
+pub static ROOT_FIND_PATH: Export = Export {
+    name: "dwarnizza_root_find_path",
+    inputs: &["root", "path"],
+    numbers: MASKS,
+    // SAFETY: file and path are slices, and the output has 16 bytes, as its case lends it.
+    library: Function::Other(|given, lent| unsafe {
+        let ((file, file_len), (path, path_len)) = (given.lent(0), given.lent(1));
+        let (locale, unwanted) = masks(given);
+        sys::dwarnizza_root_find_path(
+            file,
+            file_len,
+            path,
+            path_len,
+            locale,
+            unwanted,
+            bytes_16(lent),
+            &mut *lent.answer,
+        )
+    }),
+    second: |given, output| {
+        let ([file, path, _], (locale, unwanted)) = (given.bytes, masks(given));
+        let told = root::find_path(file, path, locale, unwanted);
+        Said::of_found(told, |(id, found)| {
+            output.copy_from_slice(&found.key);
+            [id.into(), found.place as u64]
+        })
+    },
+    refusals: &[40..=44, 110..=110],
 };
 
 /// The chain.
@@ -657,6 +700,8 @@ const SETTINGS: &[&str] = &["version", "W", "K"];
 
 const WANTED: &[&str] = &["id", "locale", "unwanted"];
 
+const MASKS: &[&str] = &["locale", "unwanted"];
+
 /// The settings that are given, as numbers of 32 bits.
 fn given_settings(given: &Given) -> Settings {
     let [version, offset_width, key_length, ..] = given.numbers.map(|number| number as u32);
@@ -671,6 +716,12 @@ fn given_settings(given: &Given) -> Settings {
 fn wanted(given: &Given) -> (u32, u32, u64) {
     let [id, locale, unwanted, ..] = given.numbers;
     (id as u32, locale as u32, unwanted)
+}
+
+/// Locale mask and mask of unwanted content, where no id is given.
+fn masks(given: &Given) -> (u32, u64) {
+    let [locale, unwanted, ..] = given.numbers;
+    (locale as u32, unwanted)
 }
 
 /// Where a row begins, and the separator.
