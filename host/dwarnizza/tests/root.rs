@@ -166,13 +166,7 @@ fn m10_headers() {
 /// What the parts of a good file say: the first record of this id in a block that counts.
 fn by_parts(file: &RootFile, id: u32, locale: u32, unwanted: u64) -> Option<Record> {
     let (block, record) = file.records().find(|&(block, record)| {
-        let BlockParts {
-            locale: of_block,
-            content,
-            ..
-        } = file.blocks[block];
-        let counts = of_block & locale != 0 && u64::from(content) & unwanted == 0;
-        counts && file.id(block, record) == id
+        file.counts(block, (locale, unwanted)) && file.id(block, record) == id
     })?;
     Some(Record {
         key: file.blocks[block].records[record].key,

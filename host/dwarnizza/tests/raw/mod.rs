@@ -3,7 +3,7 @@
 
 #![allow(dead_code)] // Each test uses a part of it.
 
-use dwarnizza::root::Record;
+use dwarnizza::root::{PathRecord, Record};
 use dwarnizza::{Reason, Refusal};
 use dwarnizza_sys as ffi;
 
@@ -87,6 +87,31 @@ pub fn find_many(
             answer,
         )
     })
+}
+
+/// The record of a path, after seeing that the lent key keeps its bytes where there is none.
+#[track_caller]
+pub fn find_path(
+    file: &[u8],
+    path: &[u8],
+    (locale, unwanted): (u32, u64),
+) -> Result<Option<PathRecord>, Refusal> {
+    let lent: [u8; 16] = *b"what was lent, 0";
+    let mut key = lent;
+    let (f, f_len, p, p_len) = (file.as_ptr(), file.len(), path.as_ptr(), path.len());
+    // SAFETY: each pointer and length are those of one slice.
+    let words = answered(|answer| unsafe {
+        let key = &mut key;
+        ffi::dwarnizza_root_find_path(f, f_len, p, p_len, locale, unwanted, key, answer)
+    });
+    if !matches!(words, Ok(Some(_))) {
+        assert_eq!(key, lent, "the key was written");
+    }
+    Ok(words?.map(|[id, place, ..]| PathRecord {
+        id: u32::try_from(id).expect("an id has 32 bits"),
+        key,
+        place: place as usize,
+    }))
 }
 
 /// The words of a row.

@@ -91,6 +91,12 @@ impl RootFile {
             .flat_map(|(block, count)| (0..count).map(move |record| (block, record)))
     }
 
+    /// Whether a block counts for a mask of locales and one of unwanted content.
+    pub fn counts(&self, block: usize, (locale, unwanted): (u32, u64)) -> bool {
+        let block = &self.blocks[block];
+        block.locale & locale != 0 && u64::from(block.content) & unwanted == 0
+    }
+
     /// The id of a record, which is a good one.
     pub fn id(&self, block: usize, record: usize) -> u32 {
         let deltas = self.blocks[block].records[..=record].iter();
