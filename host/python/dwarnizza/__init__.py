@@ -44,8 +44,9 @@ from .index import (
     written_length,
 )
 from .key import key_from_text
+from .name_hash import name_hash
 from .refusal import Link, Reason, Refusal
-from .root import ALL_LOCALES, CheckedRoot, Record, Root
+from .root import ALL_LOCALES, CheckedRoot, PathRecord, Record, Root
 from .worklist import Field, Row, Worklist
 
 __all__ = [
@@ -70,6 +71,7 @@ __all__ = [
     "NotFileNumber",
     "NumberFault",
     "PageParts",
+    "PathRecord",
     "Reason",
     "Record",
     "Refusal",
@@ -87,6 +89,7 @@ __all__ = [
     "key_from_text",
     "listing",
     "md5",
+    "name_hash",
     "write_index",
     "write_index_into",
     "written_length",

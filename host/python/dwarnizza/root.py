@@ -1,10 +1,11 @@
-"""Root files: for each file number (FileDataID) its content keys. A file is given as it is taken
-out of its envelope."""
+"""Root files: for each file number (FileDataID) its content keys, and for paths both. A file is
+given as it is taken out of its envelope."""
 
 import struct
-from typing import Iterable, List, NamedTuple, Optional
+from typing import Iterable, List, NamedTuple, Optional, Union
 
 from ._library import Data, File, Key, call, checked
+from .name_hash import path_bytes
 
 ALL_LOCALES = 0xFFFFFFFF
 
@@ -19,6 +20,18 @@ class Record(NamedTuple):
     16
     """
 
+    key: bytes  # the content key
+    place: int  # where it stands in the file
+
+
+class PathRecord(NamedTuple):
+    """What a file says of a path.
+
+    >>> PathRecord(file_number=417, key=bytes(16), place=16).file_number
+    417
+    """
+
+    file_number: int
     key: bytes  # the content key
     place: int  # where it stands in the file
 
@@ -58,6 +71,16 @@ class CheckedRoot(File):
         call("root_find_many", self._data, listed, locale, unwanted, output)
         return [key if found else None for found, key in _FOUND.iter_unpack(output)]
 
+    def find_path(
+        self, path: Union[str, Data], locale: int = ALL_LOCALES, unwanted: int = 0
+    ) -> Optional[PathRecord]:
+        """The first record, in the order of the file, whose name hash is that of the path
+        (`name_hash`), in the blocks that have name hashes and that `find` looks into with these
+        masks. A str is taken as its bytes in UTF-8. Refused with 110 above 1,024 bytes."""
+        key = Key()
+        found, words = call("root_find_path", self._data, path_bytes(path), locale, unwanted, key)
+        return PathRecord(words[0], bytes(key), words[1]) if found else None
+
 
 class Root:
     """The way to a root file from its bytes.
@@ -71,6 +94,8 @@ class Root:
     >>> root.find(5, locale=0x20) is None
     True
     >>> root.find_many([4, 5]) == [None, record.key]
+    True
+    >>> root.find_path("Sound/Horn.ogg") is None  # the record has a name hash of zeros
     True
     """
 

@@ -83,9 +83,17 @@ def encoding(
     return header + specs + tables
 
 
-def block(ids: Sequence[int], keys: Sequence[bytes], content: int = 0, locale: int = 2) -> bytes:
-    """A block of a root file of version 1."""
+def block(
+    ids: Sequence[int],
+    keys: Sequence[bytes],
+    content: int = 0,
+    locale: int = 2,
+    name_hashes: Optional[Sequence[int]] = None,
+) -> bytes:
+    """A block of a root file of version 1; the name hashes are zeros where none are given."""
     before = [-1, *ids]
     deltas = [number - last - 1 for last, number in zip(before, ids)]
     front = struct.pack("<3I", len(ids), content, locale)
-    return front + struct.pack(f"<{len(ids)}i", *deltas) + b"".join(key + bytes(8) for key in keys)
+    hashes = name_hashes or [0] * len(ids)
+    records = (key + struct.pack("<Q", name_hash) for key, name_hash in zip(keys, hashes))
+    return front + struct.pack(f"<{len(ids)}i", *deltas) + b"".join(records)

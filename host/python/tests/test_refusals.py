@@ -22,6 +22,7 @@ from dwarnizza import (
     entry_bytes,
     key_from_text,
     listing,
+    name_hash,
     write_index,
     write_index_into,
     written_length,
@@ -167,6 +168,8 @@ def roots() -> List[Case]:
         (42, 0, lambda: Root.check(b"TSFM" + struct.pack("<3I", 16, 2, 0))),
         (43, 0, lambda: Root.check(b"TSFM")),
         (44, 0, lambda: Root.check(b"TSFM" + struct.pack("<3I", 24, 4, 0))),
+        (110, 0, lambda: name_hash(bytes(1025))),
+        (110, 0, lambda: Root.check(BLOCK).find_path("a" * 1025)),
         (161, 2, lambda: Root.check(BLOCK).find_many([5, 5, 4])),
     ]
 
