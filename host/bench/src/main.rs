@@ -16,6 +16,7 @@ mod md5;
 mod measure;
 mod openssl;
 mod parsed;
+mod path;
 mod root;
 mod table;
 mod worklist;
@@ -28,19 +29,24 @@ use table::Table;
 /// A part by its name.
 type Part = (&'static str, fn(&mut Table));
 
-const PARTS: [Part; 8] = [
+const PARTS: [Part; 9] = [
     ("md5", md5::measure),
     ("index", index::measure),
     ("key", key::measure),
     ("envelope", envelope::measure),
     ("encoding", encoding::measure),
     ("root", root::measure),
+    ("name_hash", path::measure),
     ("chain", chain::measure),
     ("worklist", worklist::measure),
 ];
 
-/// A table beside these: many ids at once, and lookups in parsed forms.
-const TABLES: [(&str, fn()); 2] = [("many", many::print), ("parsed", parsed::print)];
+/// A table beside these: paths beside ids, many ids at once, and lookups in parsed forms.
+const TABLES: [(&str, fn()); 3] = [
+    ("path", path::print),
+    ("many", many::print),
+    ("parsed", parsed::print),
+];
 
 fn main() -> ExitCode {
     let arguments: Vec<_> = env::args().skip(1).collect();

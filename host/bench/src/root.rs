@@ -1,10 +1,14 @@
 //! Root files, of blocks of 3,750 records.
 
-use fuzz::export::{ABSENT, ANSWERED, Export, Given, ROOT_CHECK, ROOT_FIND, ROOT_FIND_MANY};
+use fuzz::export::{
+    ABSENT, ANSWERED, Export, Given, ROOT_CHECK, ROOT_FIND, ROOT_FIND_MANY, ROOT_FIND_PATH,
+};
+use second::name_hash::name_hash;
 use second::root::{BlockParts, Header, Record, write};
 
 use crate::encoding::content_key;
 use crate::many::{FOUND, rising};
+use crate::path::path;
 use crate::table::{Call, Table};
 
 /// How many blocks the files have.
@@ -20,7 +24,7 @@ const ENTRIES: usize = 1000;
 pub const LOCALE: u32 = 0x2;
 
 /// A long header of version 2.
-const LONG: Option<Header> = Some(Header {
+pub const LONG: Option<Header> = Some(Header {
     magic: *b"TSFM",
     a: 24,
     b: 2,
@@ -35,16 +39,17 @@ pub struct File {
 impl File {
     /// A file of `blocks` blocks, whose ids are as far apart as there are blocks, so that all go
     /// through the same range. The keys of the records are the content keys of an encoding file of
-    /// `entries` entries.
+    /// `entries` entries, and their name hashes those of counted paths.
     pub fn new(header: Option<Header>, blocks: u32, entries: usize) -> Self {
         let parts = (0..blocks).map(|block| {
             let records = (0..RECORDS).map(|record| {
                 let number = (block * RECORDS + record) as usize;
                 let delta = if record == 0 { block } else { blocks - 1 };
+                let hash = name_hash(&path(number)).expect("the path is short");
                 Record {
                     delta: delta as i32,
                     key: content_key(number % entries, entries),
-                    name_hash: (number as u64).to_le_bytes(),
+                    name_hash: hash.to_le_bytes(),
                 }
             });
             BlockParts {
@@ -93,6 +98,16 @@ impl File {
         }
     }
 
+    /// The lookup of a path.
+    fn find_path<'a>(&'a self, kind: &'static str, path: &'a [u8]) -> Call<'a> {
+        let numbers = [LOCALE.into(), 0];
+        Call {
+            given: Box::new(move |_| Given::new([&self.bytes, path], numbers)),
+            output: 16,
+            ..self.call(&ROOT_FIND_PATH, kind)
+        }
+    }
+
     /// The lookup of many ids.
     fn find_many<'a>(&'a self, ids: &'a [u8]) -> Call<'a> {
         let numbers = [LOCALE.into(), 0];
@@ -129,4 +144,27 @@ pub fn measure(table: &mut Table) {
         .each_ref()
         .map(|file| rising(file.records() / 15, file.records()));
     table.calls(files.zip(&lists).map(|(file, ids)| file.find_many(ids)));
+    measure_paths(table, &with_header);
+}
+
+/// The paths of the same records.
+fn measure_paths(table: &mut Table, files: &[File]) {
+    let first = path(RECORDS as usize - 1);
+    let last: Vec<_> = files.iter().map(|file| path(file.records() - 1)).collect();
+    let absent = path(u32::MAX as usize);
+    table.calls(
+        files
+            .iter()
+            .map(|file| file.find_path(", in the first block", &first)),
+    );
+    table.calls(
+        files
+            .iter()
+            .zip(&last)
+            .map(|(file, path)| file.find_path(", in the last block", path)),
+    );
+    table.calls(files.iter().map(|file| Call {
+        result: ABSENT,
+        ..file.find_path(", absent", &absent)
+    }));
 }
