@@ -555,11 +555,11 @@ uint32_t dwarnizza_encoding_spec(const uint8_t *file, size_t file_len,
  * Root file
  *
  * A root file, taken out of its envelope, gives content keys for file numbers
- * (FileDataIDs) and for paths. It is a header and blocks; numbers are little-endian. A header
- * starts with "MFST" or "TSFM" and two numbers, a and b. Where a is 16 to 99 and
- * b is 2, 3 or 4, the header has a bytes, and b is the version, of which 4 is
- * refused; else it has 12. A file that starts otherwise has no header and is of
- * version 1.
+ * (FileDataIDs), and both for paths. It is a header and blocks; numbers are
+ * little-endian. A header starts with "MFST" or "TSFM" and two numbers, a and b.
+ * Where a is 16 to 99 and b is 2, 3 or 4, the header has a bytes, and b is the
+ * version, of which 4 is refused; else it has 12. A file that starts otherwise
+ * has no header and is of version 1.
  *
  * A block of version 1 is the count of its records (4 bytes), content flags (4),
  * locale flags (4), a delta for each record (4), and for each record a content
