@@ -25,16 +25,6 @@ fn jenkins_values() {
     }
 }
 
-/// 004's value, and what its own code would give, which turns backslashes into slashes.
-#[test]
-fn the_value_of_004() {
-    let path = br"Interface\Icons\INV_Misc_QuestionMark.blp";
-    assert_eq!(name_hash(path), Ok(0x9eb5_9e3c_7612_4837));
-    let slashes = b"INTERFACE/ICONS/INV_MISC_QUESTIONMARK.BLP";
-    assert_eq!(name_hash(slashes), Ok(0x9eb5_9e3c_7612_4837));
-    assert_eq!(hashlittle2(slashes, 0, 0), (0xdac7_ae31, 0x19af_f9ca));
-}
-
 /// Of single bytes only a to z and the slash are hashed as another.
 #[test]
 fn bytes_that_change() {
@@ -52,7 +42,6 @@ fn bytes_that_change() {
 
 #[test]
 fn the_longest_path() {
-    assert_eq!(name_hash(b""), Ok(0xdead_beef_dead_beef));
     assert!(name_hash(&[b'a'; 1024]).is_ok());
     assert_eq!(name_hash(&[b'a'; 1025]), Err(refusal::PATH_LENGTH));
 }

@@ -8,6 +8,7 @@ use second::encoding::{
 };
 use second::envelope::{PLAIN, with_table, without_table};
 use second::index::{self, Settings};
+use second::name_hash::{hashlittle2, name_hash};
 use second::root::{self, BlockParts, Record};
 use second::{envelope, key};
 
@@ -367,4 +368,19 @@ fn the_header_of_version_3() {
     let mut printed = root_file(header(2), &[7]);
     printed[8] = 1;
     assert_eq!(id(&printed).unwrap_err().number, 40);
+}
+
+/// 004, Example Hashes: "Empty string: 0xDEADBEEFDEADBEEF", "Interface\Icons\INV_Misc_QuestionMark.blp:
+/// 0x9EB59E3C76124837". 001 has slashes replaced by backslashes and the result pc alone, which is
+/// the upper half here. The code of 004 replaces backslashes by slashes and exchanges the halves;
+/// it does not give the value that 004 prints.
+#[test]
+fn name_hashes() {
+    assert_eq!(name_hash(b""), Ok(0xdead_beef_dead_beef));
+    let path = br"Interface\Icons\INV_Misc_QuestionMark.blp";
+    assert_eq!(name_hash(path), Ok(0x9eb5_9e3c_7612_4837));
+    let (pc, pb) = hashlittle2(&path.to_ascii_uppercase(), 0, 0);
+    assert_eq!((pc, pb), (0x9eb5_9e3c, 0x7612_4837));
+    let by_004 = hashlittle2(b"INTERFACE/ICONS/INV_MISC_QUESTIONMARK.BLP", 0, 0);
+    assert_eq!(by_004, (0xdac7_ae31, 0x19af_f9ca));
 }
