@@ -45,6 +45,11 @@ pub fn measure(table: &mut Table) {
 
 /// Prints the tables.
 pub fn print() {
+    print_hashes();
+    print_lookups();
+}
+
+fn print_hashes() {
     println!();
     println!("| Path | `name_hash` | Second program | Library / second |");
     println!("|---|---|---|---|");
@@ -52,6 +57,9 @@ pub fn print() {
     for length in LENGTHS {
         print_hash(&longest[..length]);
     }
+}
+
+fn print_lookups() {
     println!();
     println!(
         "| Lookup, of 1,500,000 records | `root_find_path` | `root_find` | By path by the second \

@@ -47,8 +47,8 @@ pub fn respelled(random: &mut Random, path: &[u8]) -> Vec<u8> {
     spelled.collect()
 }
 
-/// Gives the records of a block mostly the name hashes of these paths. Where the block has none,
-/// and rarely elsewhere, their content keys have these bytes.
+/// Gives the records of a block mostly the name hashes of these paths. Where its flags say that it
+/// has none, and rarely elsewhere, their content keys have these bytes.
 pub fn put_names(random: &mut Random, block: &mut BlockParts, paths: &[Vec<u8>]) {
     let unnamed = block.content & NO_NAME_HASHES != 0;
     for record in &mut block.records {
