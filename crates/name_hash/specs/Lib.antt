@@ -1,2 +1,3 @@
 pub mod Hashlittle
 pub mod NameHash
+pub mod Examples

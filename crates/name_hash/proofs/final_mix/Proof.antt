@@ -16,7 +16,7 @@ returns c =
     let l2 = l3 .before in
     let l1 = l2 .before in
     ap (λ w. turned (turned w))
-    (seven-lines finalLine 14 11 25 16 4 14 24 (l1 .final-line .ensures) (l2 .final-line2 .ensures) (l3 .final-line3 .ensures)
+    (seven-lines finalLine _ _ _ _ _ _ _ (l1 .final-line .ensures) (l2 .final-line2 .ensures) (l3 .final-line3 .ensures)
     (l4 .final-line4 .ensures) (l5 .final-line5 .ensures) (l6 .final-line6 .ensures) (c .final-line7 .ensures))
 
 pub final-mix-spec : {M : Type 1} → statement M
