@@ -1,6 +1,6 @@
 -- Laws of hashlittle2, of the bytes of a path as they are hashed, and of the answer.
 use mathlib.Core.Path.{_≡_, refl, sym, ap, _∙_}
-use mathlib.Core.Logic.{_⊎_, inl, inr}
+use mathlib.Core.Logic.{_⊎_}
 use mathlib.Core.List.{List, [], _∷_}
 use Prim.Native.Nat.{ℕ, zero, suc, _+_, _-_, _*_, _%_, _^_, _≤_, _<_, min}
 use native.Mathlib.Nat.{zero-add}
@@ -14,9 +14,9 @@ use Rattle.parts.specs.Part.{byteAt, overlay}
 use Rattle.parts.proofs.Laws.{by-test, overlay-paste, overlay-zeros, overlay-length}
 use Rattle.numbers.specs.Number.{littleAt, within}
 use Rattle.numbers.proofs.Laws.{within-inside, within-outside, littleAt-agree}
-use Rattle.refusal.specs.Check.{Check, silent, refused, refusedIf}
+use Rattle.refusal.specs.Check.{silent, refused}
 use Rattle.refusal.specs.Number.{path-length}
-use Rattle.refusal.specs.Outcome.{answered, refusal, after}
+use Rattle.refusal.specs.Outcome.{answered, refusal}
 use Rattle.refusal.specs.declared.Refusal.{Refusal}
 use Rattle.refusal.proofs.Laws.{said, quiet, after-said, after-quiet, answered-after, refusal-after}
 use Rattle.name_hash.specs.declared.Words.{Words}

@@ -15,6 +15,9 @@ ghost use Rattle.name_hash.specs.NameHash as spec;
 // The greatest length of a path.
 pub const MOST_PATH: usize = 1024;
 
+// The greatest length of a path that room of 128 bytes holds with 12 zeros behind it.
+const SHORT_PATH: usize = 116;
+
 // What a path tells.
 pub enum Hashed {
     Hash(u64),
@@ -137,7 +140,7 @@ fn mix_blocks(s: &[u8], count: u32, n: usize) -> Words
     w
 }
 
-// The words at the end of `count` bytes, behind which there are more.
+// The words after `count` bytes: the blocks, and then the last 1 to 12 bytes with those behind them.
 fn end(s: &[u8], count: u32) -> Words
     requires { ⌜ (0 < count) × (count + 12 ≤ length (now s)) ⌝ }
     ensures { λ r. ⌜ r ≡ little.ended count (now (s .entry)) ⌝ }
@@ -157,7 +160,7 @@ fn normal(b: u8) -> u8
     }
 }
 
-// Puts the bytes of a path, as they are hashed, in front.
+// Puts the bytes of a path, as they are hashed, in place of the first ones of `room`.
 fn normalize(path: &[u8], room: &mut [u8])
     requires { ⌜ length (now path) ≤ length (now room) ⌝ }
     ensures { λ _. ⌜ now (room .exit) ≡ overlay (now (room .entry)) 0 (spec.normalized (now (path .entry))) ⌝ }
@@ -169,13 +172,14 @@ fn normalize(path: &[u8], room: &mut [u8])
     }
 }
 
-// Room for a path of the greatest length and 12 zeros.
+// Room for the longest path and 12 zeros.
 fn zeros() -> [u8; 1036]
     ensures { λ r. ⌜ r ≡ replicate 1036 0 ⌝ }
 {
     [0u8; 1036]
 }
 
+// A path of any length, in front of 12 zeros or more. LLVM makes the bytes sixteen at a time where they are stored first.
 fn hash_long(path: &[u8]) -> Words
     requires { ⌜ (0 < length (now path)) × (length (now path) ≤ spec.mostPath) ⌝ }
     ensures { λ r. ⌜ r ≡ little.hashlittle2 (spec.normalized (now (path .entry))) ⌝ }
@@ -185,7 +189,7 @@ fn hash_long(path: &[u8]) -> Words
     end(&room, path.len() as u32)
 }
 
-// The same of a path that leaves 12 zeros in a room of 128 bytes, as most do: there are fewer zeros to write.
+// The same for a short path, as most are: to clear the greater room would cost as much as the hash.
 fn hash_short(path: &[u8]) -> Words
     requires { ⌜ (0 < length (now path)) × (length (now path) ≤ 116) ⌝ }
     ensures { λ r. ⌜ r ≡ little.hashlittle2 (spec.normalized (now (path .entry))) ⌝ }
@@ -202,7 +206,7 @@ fn hash_words(path: &[u8]) -> Words
     if path.len() == 0 {
         return start(0);
     }
-    if path.len() <= 116 {
+    if path.len() <= SHORT_PATH {
         return hash_short(path);
     }
     hash_long(path)

@@ -1,4 +1,5 @@
 -- `name_hash::hash`: a path that is too long, and the two halves of the hash.
+use native.Mathlib.Omega.{arith}
 use borrow.Author.Needs.{needs}
 use Rattle.name_hash.specs.NameHash.{outcome}
 use Rattle.name_hash.proofs.Laws.{too-long, short-enough}
@@ -7,13 +8,13 @@ use Rattle.name_hash.proofs.hash.Tie as tie
 
 returns : tie.Need-returns
 unfolding outcome
-returns c = too-long (c .before .before .args .path .now) (c .if1 .taken)
+returns c = too-long (c .before .before .args .path .now) (omega arith)
 
 returns-2 : tie.Need-returns-2
 unfolding outcome
 returns-2 c =
     let h = c .before .before in
-    short-enough (h .before .before .before .args .path .now) (h .hash-words .result) (h .before .if1 .left) (h .hash-words .ensures)
+    short-enough (h .before .before .before .args .path .now) (h .hash-words .result) (omega arith) (h .hash-words .ensures)
 
 pub hash-spec : {M : Type 1} → statement M
 hash-spec =
