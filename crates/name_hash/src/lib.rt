@@ -179,7 +179,7 @@ fn zeros() -> [u8; 1036]
     [0u8; 1036]
 }
 
-// A path of any length, in front of 12 zeros or more. LLVM makes the bytes sixteen at a time where they are stored first.
+// A path of any length, stored as it is hashed, with 12 zeros or more behind it: the compiler then changes 16 bytes at a time.
 fn hash_long(path: &[u8]) -> Words
     requires { ⌜ (0 < length (now path)) × (length (now path) ≤ spec.mostPath) ⌝ }
     ensures { λ r. ⌜ r ≡ little.hashlittle2 (spec.normalized (now (path .entry))) ⌝ }
