@@ -66,14 +66,6 @@ normal-at s i = List·getD-map normalByte s i 0
 
 -- ---- words and blocks
 
-pub word-is : (s : List ℕ) (at : ℕ)
-    → byteAt s at + byteAt s (at + 1) * 256 + byteAt s (at + 2) * 65536 + byteAt s (at + 3) * 16777216 ≡ littleAt s at 4
-unfolding littleAt
-word-is s at =
-    let two : at + 1 + 1 ≡ at + 2 = omega arith in
-    let three : at + 2 + 1 ≡ at + 3 = omega arith in
-    rw (two, three) (omega arith)
-
 -- a turn of the loop over blocks
 pub mixed-next : (count : ℕ) (s : List ℕ) (n : ℕ) {w v u : Words} → w ≡ mixed count s n → v ≡ addedAt s (12 * n) w → u ≡ mix v
     → u ≡ mixed count s (n + 1)

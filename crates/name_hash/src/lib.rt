@@ -1,4 +1,5 @@
 // Name hashes: hashlittle2 of a path in capitals, with backslashes.
+use numbers::word;
 use refusal::PATH_LENGTH;
 use refusal::Refusal;
 use std::num::wrapping_add_u32;
@@ -6,8 +7,7 @@ use std::num::wrapping_sub_u32;
 ghost use mathlib.Core.Path.{_≡_};
 ghost use Prim.Native.Nat.{_+_, _*_, _<_, _≤_};
 ghost use lib.ListN.{length, replicate};
-ghost use Rattle.parts.specs.Part.{byteAt, overlay};
-ghost use Rattle.numbers.specs.Number.{littleAt};
+ghost use Rattle.parts.specs.Part.{overlay};
 ghost use Rattle.md5_block.specs.Block.{rotated};
 ghost use Rattle.name_hash.specs.Hashlittle as little;
 ghost use Rattle.name_hash.specs.NameHash as spec;
@@ -89,22 +89,6 @@ fn final_mix(w: Words) -> Words
         b: w.a,
         c: w.b,
     }
-}
-
-// A byte, widened: its range comes with it.
-fn wide(s: &[u8], at: usize) -> u32
-    requires { ⌜ at < length (now s) ⌝ }
-    ensures { λ r. ⌜ (r ≡ byteAt (now (s .entry)) at) × (r < 256) ⌝ }
-{
-    s[at] as u32
-}
-
-// The four bytes at an offset, the lowest first.
-fn word(s: &[u8], at: usize) -> u32
-    requires { ⌜ at + 4 ≤ length (now s) ⌝ }
-    ensures { λ r. ⌜ r ≡ littleAt (now (s .entry)) at 4 ⌝ }
-{
-    wide(s, at) + wide(s, at + 1) * 256 + wide(s, at + 2) * 65536 + wide(s, at + 3) * 16777216
 }
 
 // The three words at an offset added to a, b and c.

@@ -72,6 +72,10 @@ one-more-fits {w = w} short below b = record {
   fits = lt-of-lt-of-le (digits-lt below b) (rw (← pow-suc 256 w) (pow-le-pow-right (lit< tt) short));
 }
 
+-- a number of four bytes
+pub word-fits : (s : List ℕ) (at r : ℕ) → ((i : ℕ) → byteAt s i < 256) → r ≡ littleAt s at 4 → r < 2 ^ 32
+word-fits s at r bytes e = rw e (littleAt-below s bytes at 4)
+
 -- ---- numbers between two bounds
 
 module _ (low high x : ℕ) where

@@ -84,3 +84,10 @@ pub fn little(s: &[u8], at: usize, width: usize) -> u64
     let near = padded(s, at);
     little_inside(&near, 0, w)
 }
+
+// The little-endian number of four bytes at an offset.
+pub fn word(s: &[u8], at: usize) -> u32
+    ensures { λ r. ⌜ r ≡ littleAt (now (s .entry)) at 4 ⌝ }
+{
+    little(s, at, 4) as u32
+}

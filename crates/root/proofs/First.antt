@@ -1,22 +1,20 @@
 -- The search for the first wanted record: record after record in a block, and block after block.
-use mathlib.Core.Path.{_≡_, refl, sym, ap, ap₂, _∙_, subst}
+use mathlib.Core.Path.{_≡_, refl, sym, ap, _∙_}
 use mathlib.Core.Bool.{Bool, true, false, _&&_, cond, false≢true}
 use mathlib.Core.List.{List, [], _∷_, _++_, append-nil}
-use Prim.Native.Nat.{ℕ, zero, suc, _+_, _-_, _^_, _≤_, _<_}
+use Prim.Native.Nat.{ℕ, zero, suc, _+_, _-_, _≤_, _<_}
 use native.Mathlib.Nat.{sub-zero}
-use native.Mathlib.Numerals.{add-one}
 use native.Mathlib.Omega.{arith}
 use lib.IntN.{ℤ, pos, negsuc, _+ℤ_}
 use lib.ListN.{length, drop, replicate}
 use lib.Signed.{mag}
 use mir.Syntax.{w64}
 use mir.Val.{SFits, toZ, ofZ}
-use mir.Facts.{toZ-ofZ}
 use borrow.Author.Tests.{eq-eqb, ne-eqb}
 use Rattle.parts.specs.Part.{partAt, overlay}
 use Rattle.parts.proofs.Laws.{partAt-inside, overlay-inside}
 use Rattle.refusal.specs.Check.{silent}
-use Rattle.refusal.specs.Outcome.{Outcome, answered, absent}
+use Rattle.refusal.specs.Outcome.{Outcome, answered}
 use Rattle.refusal.proofs.Laws.{first-left, first-right, after-quiet}
 use Rattle.root_layout.specs.declared.Layout.{Layout}
 use Rattle.root_layout.specs.Header.{layoutOf}
@@ -28,7 +26,7 @@ use Rattle.root_block.proofs.Signed.{reckoned}
 use Rattle.root_block.proofs.Reckoned as ids
 use Rattle.root_block.proofs.Reckoned.{idBefore, id-in-range}
 use Rattle.root.specs.Root.{blocksBy, blocksCheck, rootCheck}
-use Rattle.root.specs.Lookup.{Record, recordAt, recordsFrom, recordsIn, recordsBy, First, none, this, firstOf}
+use Rattle.root.specs.Lookup.{Record, recordAt, recordsFrom, recordsIn, recordsBy, none, this, firstOf}
 use Rattle.root.specs.Lookup.{isId, wanted, foundIn, lookupOf, keyOr, outcome}
 use Rattle.root.specs.declared.Answer.{Answer}
 

@@ -3,12 +3,12 @@
 // language writes them.
 use ids::check_ids;
 use numbers::little;
+use numbers::word;
 use parts::part;
 use refusal::BLOCK_CUT;
 use refusal::Verdict;
 use refusal::refuse;
 use root_layout::Layout;
-use root_layout::word;
 ghost use mathlib.Core.Path.{_≡_};
 ghost use Prim.Native.Nat.{_^_, _≤_, _<_};
 ghost use Rattle.refusal.specs.Check.{checkOf};

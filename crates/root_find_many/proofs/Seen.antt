@@ -2,7 +2,7 @@
 use mathlib.Core.Path.{_≡_, refl, sym, ap, ap₂, _∙_, subst}
 use mathlib.Core.Bool.{Bool, true, false, _&&_, cond, and-false, false≢true}
 use mathlib.Core.List.{List, [], _∷_, _++_, append-assoc, append-nil}
-use Prim.Native.Nat.{ℕ, zero, suc, _+_, _-_, _*_, _^_, _≤_, _<_}
+use Prim.Native.Nat.{ℕ, zero, suc, _+_, _-_, _*_, _≤_, _<_}
 use native.Mathlib.Nat.{add-zero, zero-add}
 use native.Mathlib.Numerals.{add-one}
 use native.Mathlib.Omega.{arith}
@@ -13,22 +13,20 @@ use lib.Signed.{mag, nonNeg}
 use mir.Syntax.{w32, w64}
 use mir.Val.{Fits, SFits, toZ, ofZ}
 use mir.Facts.{toZ-ofZ}
-use borrow.Author.Tests.{eq-eqb, ne-eqb, eqb-true, eqb-false, leb-true}
-use Rattle.parts.specs.Part.{byteAt}
+use borrow.Author.Tests.{eq-eqb, ne-eqb, eqb-true, eqb-false}
 use Rattle.parts.proofs.Laws.{by-test}
 use Rattle.refusal.specs.Check.{silent}
 use Rattle.refusal.proofs.Laws.{first-left, first-right}
 use Rattle.root_layout.specs.declared.Layout.{Layout}
-use Rattle.root_block.specs.Ids.{deltaAt, mostId, inRange}
+use Rattle.root_block.specs.Ids.{deltaAt, inRange}
 use Rattle.root_block.specs.Block as block
 use Rattle.root_block.specs.Block.{blockOf, deltasOf, blockCheck, counts}
 use Rattle.root_block.specs.declared.Block.{Block}
 use Rattle.root_block.proofs.Laws.{block-fits, deltas-length, key-inside}
 use Rattle.root_block.proofs.Signed.{reckoned, range-fits}
 use Rattle.root_block.proofs.Reckoned.{idBefore}
-use Rattle.root.specs.Root.{sizeAt, blocksAfter, blocksBy, blocksCheck}
+use Rattle.root.specs.Root.{sizeAt, blocksBy, blocksCheck}
 use Rattle.root.specs.Lookup.{Record, recordAt, recordsFrom, recordsIn, recordsBy, First, none, this, firstOf, isId, wanted, keyTold, keyOr}
-use Rattle.root.proofs.Walk.{Walk, walk-here, walk-end}
 use Rattle.root.proofs.First.{block-skipped, uncounted, before-fits, record-fits, record-in-range, next-is, next-before}
 use Rattle.root_find_many.specs.Many.{foundFlag, entryFor}
 use Rattle.root_find_many.specs.Entries.{Held, Kept, foundEntry, turned, entryBy, BlockAt, BlockPut}

@@ -1,8 +1,8 @@
 -- Laws of the lookup by path: the blocks that are searched, the name hashes and the ids of one block, and the first record found.
-use mathlib.Core.Path.{_≡_, refl, sym, ap, ap₂, _∙_, subst}
+use mathlib.Core.Path.{_≡_, sym, ap, ap₂, _∙_, subst}
 use mathlib.Core.Bool.{Bool, true, false, _&&_}
 use mathlib.Core.List.{List, [], _∷_, _++_}
-use Prim.Native.Nat.{ℕ, zero, suc, _+_, _-_, _*_, _^_, _≤_, _<_}
+use Prim.Native.Nat.{ℕ, zero, suc, _+_, _-_, _*_, _≤_, _<_}
 use native.Mathlib.Nat.{add-zero, zero-add, sub-zero}
 use native.Mathlib.Omega.{arith}
 use lib.Dec.{ltb, eqb}
@@ -26,7 +26,7 @@ use Rattle.root.specs.Lookup.{Record, recordAt, recordsFrom, recordsBy, firstOf
 use Rattle.root.proofs.First.{not-wanted, is-wanted}
 use Rattle.root_find_path.specs.Path.{isSearched, named, recordTold, hashLookup, keyOr, outcome}
 use Rattle.root_find_path.specs.declared.Answer.{Answer}
-use Rattle.root_find_path.specs.Records.{Whole, FirstWith, Judged, hashOf}
+use Rattle.root_find_path.specs.Records.{Whole, FirstWith, hashOf}
 
 -- ---- the blocks that are searched
 

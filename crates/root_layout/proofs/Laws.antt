@@ -2,13 +2,11 @@
 use mathlib.Core.Path.{_≡_, refl, sym, ap, _∙_}
 use mathlib.Core.Bool.{Bool, true, false, _&&_, cond}
 use mathlib.Core.List.{List}
-use Prim.Native.Nat.{ℕ, _^_, _≤_, _<_}
+use Prim.Native.Nat.{ℕ, _≤_, _<_}
 use native.Mathlib.Omega.{arith}
 use lib.ListN.{length}
 use borrow.Author.Tests.{lt-ltb, le-ltb, eq-eqb, ne-eqb}
-use Rattle.parts.specs.Part.{byteAt}
-use Rattle.numbers.specs.Number.{littleAt, within}
-use Rattle.numbers.proofs.Laws.{littleAt-below}
+use Rattle.numbers.specs.Number.{within}
 use Rattle.refusal.specs.Check.{Check, silent, refused, refusedIf, first}
 use Rattle.refusal.specs.Number.{root-header-size, root-header-cut, root-version}
 use Rattle.refusal.specs.Outcome.{answered, refusal, after}
@@ -20,10 +18,6 @@ use Rattle.root_layout.specs.declared.Opened.the-variants.{Passed, Refus
 use Rattle.root_layout.specs.Layout.{noMagicVersion, shortVersion, layoutFor}
 use Rattle.root_layout.specs.Header.{hasMagic, headerBytes, version, shortHeader, leastLong, mostLong, leastVersion, mostVersion}
 use Rattle.root_layout.specs.Header.{refusedVersion, leastSize, longNumbers, layoutOf, headerCheck, layoutValues, openOutcome, outcome}
-
--- a number of four bytes
-pub word-fits : (s : List ℕ) (at r : ℕ) → ((i : ℕ) → byteAt s i < 256) → r ≡ littleAt s at 4 → r < 2 ^ 32
-word-fits s at r bytes e = rw e (littleAt-below s bytes at 4)
 
 -- ---- the two numbers after the magic, one after the other
 

@@ -1,7 +1,7 @@
 // The header of a root file, refusals 42 to 44, and how its blocks are laid out. specs/Header.antt and specs/Layout.antt have the
 // names of the constants as that language writes them.
-use numbers::little;
 use numbers::within;
+use numbers::word;
 use parts::equal;
 use parts::part;
 use refusal::ROOT_HEADER_CUT;
@@ -10,7 +10,6 @@ use refusal::ROOT_VERSION;
 use refusal::Refusal;
 ghost use mathlib.Core.Path.{_≡_};
 ghost use Prim.Native.Nat.{_≤_};
-ghost use Rattle.numbers.specs.Number.{littleAt};
 ghost use Rattle.refusal.specs.Outcome.{refusal};
 ghost use Rattle.root_layout.specs.Layout as spec;
 ghost use Rattle.root_layout.specs.Header as header;
@@ -119,13 +118,6 @@ impl Layout {
     {
         COUNT_SIZE + LOCALE_SIZE + self.content_size() + self.unknown as usize
     }
-}
-
-// The number of four bytes at an offset.
-pub fn word(s: &[u8], at: usize) -> u32
-    ensures { λ r. ⌜ r ≡ littleAt (now (s .entry)) at 4 ⌝ }
-{
-    little(s, at, 4) as u32
 }
 
 // The layout of blocks of a version that begin at a byte.

@@ -1,8 +1,8 @@
--- `root_layout::word`: four bytes fit.
-use Rattle.root_layout.proofs.Laws.{word-fits}
+-- `numbers::word`: four bytes fit.
+use Rattle.numbers.proofs.Laws.{word-fits}
 use borrow.Author.Needs.{needs}
-use Rattle.root_layout.proofs.word.Statement.{statement}
-use Rattle.root_layout.proofs.word.Tie as tie
+use Rattle.numbers.proofs.word.Statement.{statement}
+use Rattle.numbers.proofs.word.Tie as tie
 
 cast-result : tie.Need-cast-result
 cast-result c = record { fits = word-fits _ _ _ (λ i. c .before .shared-slice-known .given i .fits) (c .little .ensures) }
