@@ -19,6 +19,34 @@ pub struct Names {
     pub field: &'static str,
     /// The field of an answer that is refused.
     pub refused: &'static str,
+    pub texts: Texts,
+}
+
+/// How the texts are told, and which of them are the same.
+#[derive(Clone, Copy)]
+pub enum Texts {
+    /// File numbers and keys: told in lower case, and the same in either case.
+    Plain,
+    /// Paths: told as they are given, and the same with either slash and in either case.
+    Paths,
+}
+
+impl Texts {
+    fn told(self, text: &[u8]) -> Cow<'_, [u8]> {
+        match self {
+            Self::Plain => lower_case(text),
+            Self::Paths => Cow::Borrowed(text),
+        }
+    }
+
+    /// What texts that are the same have in common.
+    fn same(self, text: &[u8]) -> Cow<'_, [u8]> {
+        let text = lower_case(text);
+        match self {
+            Self::Paths if text.contains(&b'/') => Cow::Owned(with_backslashes(&text)),
+            _ => text,
+        }
+    }
 }
 
 /// Something that is sought.
@@ -48,7 +76,8 @@ pub struct Batch<'a> {
 /// What is answered of something sought, with the fields behind its text.
 pub enum Answer {
     Found(Vec<Field>),
-    Absent(Vec<Field>),
+    /// With what its text looks like, where it looks odd.
+    Absent(Vec<Field>, Option<&'static str>),
     /// Nobody has it, but something could not be searched.
     Unknown(Vec<Field>),
     Refused(Failure),
@@ -64,7 +93,7 @@ impl<'a> Batch<'a> {
         if operands.is_empty() && file.is_none() {
             return Err(Failure::usage(format!("{} is missing", names.what)));
         }
-        let list = file.map(worklist::File::list).transpose()?;
+        let list = file.map(|file| file.list(names.texts)).transpose()?;
         let operands = operands.iter().map(|text| Sought {
             cell: Cell::Text(Cow::Borrowed(text.as_encoded_bytes())),
             row: None,
@@ -92,14 +121,11 @@ impl<'a> Batch<'a> {
         }
     }
 
-    /// A failure of something sought, with the row that it stands in.
-    fn failure(&self, sought: &Sought<'_>, failure: Failure) -> Failure {
+    /// Words about something sought, with the row that it stands in.
+    fn words(&self, sought: &Sought<'_>, words: String) -> String {
         match (sought.row, &self.list) {
-            (Some(row), Some(list)) => Failure {
-                words: list.words(row, &failure.words, sought.text()),
-                ..failure
-            },
-            _ => failure,
+            (Some(row), Some(list)) => list.words(row, &words, sought.text()),
+            _ => words,
         }
     }
 }
@@ -110,7 +136,7 @@ pub struct Teller<'a> {
     /// How many are told.
     told: usize,
     tally: Tally,
-    /// The texts of rows so far, in lower case.
+    /// The texts of rows so far, by what the same ones have in common.
     seen: HashSet<Cow<'a, [u8]>>,
 }
 
@@ -155,24 +181,30 @@ impl<'a> Teller<'a> {
         answer: Answer,
         output: &mut Output,
     ) -> Result<(), Failure> {
+        let Names { field, texts, .. } = self.batch.names;
         if sought.row.is_some() {
             self.tally.count(&answer);
-            let text = sought.text().map(lower_case);
+            let text = sought.text().map(|text| texts.same(text));
             let again = text.is_some_and(|text| !self.seen.insert(text));
             self.tally.duplicate += usize::from(again);
         }
-        let (word, status, more) = match answer {
-            Answer::Found(fields) => ("found", Status::Answered, fields),
-            Answer::Absent(fields) => ("absent", Status::Absent, fields),
-            Answer::Unknown(fields) => ("unknown", Status::Refused, fields),
+        let (word, status, more, look) = match answer {
+            Answer::Found(fields) => ("found", Status::Answered, fields, None),
+            Answer::Absent(fields, look) => ("absent", Status::Absent, fields, look),
+            Answer::Unknown(fields) => ("unknown", Status::Refused, fields, None),
             Answer::Refused(failure) => return self.refuse(sought, failure, output),
         };
-        let text = lower_case(sought.text().unwrap_or_default());
-        let mut fields = vec![(self.batch.names.field, shown_bytes(&text).into())];
+        let text = shown_bytes(&texts.told(sought.text().unwrap_or_default()));
+        let odd = look.map(|look| format!("\"{text}\" is absent; {look}"));
+        let mut fields = vec![(field, text.into())];
         fields.extend(more);
         fields.push(("row", sought.row.into()));
         output.note(status);
-        output.answer(word, &fields)
+        output.answer(word, &fields)?;
+        if let Some(words) = odd {
+            output.say(&self.batch.words(sought, words));
+        }
+        Ok(())
     }
 
     fn refuse(
@@ -182,7 +214,10 @@ impl<'a> Teller<'a> {
         output: &mut Output,
     ) -> Result<(), Failure> {
         let (text, failure) = match &sought.cell {
-            Cell::Text(text) => (&text[..], self.batch.failure(sought, failure)),
+            Cell::Text(text) => {
+                let words = self.batch.words(sought, failure.words);
+                (&text[..], Failure { words, ..failure })
+            }
             Cell::Fault(_, row) => (*row, failure),
         };
         let text = shown_bytes(text);
@@ -211,8 +246,14 @@ fn lower_case(text: &[u8]) -> Cow<'_, [u8]> {
     }
 }
 
-/// How many rows had which answer. A duplicate is one of the others as well: a row whose text
-/// stood in a row before it, in lower or upper case.
+/// A path with backslashes alone.
+fn with_backslashes(path: &[u8]) -> Vec<u8> {
+    let turned = |byte: &u8| if *byte == b'/' { b'\\' } else { *byte };
+    path.iter().map(turned).collect()
+}
+
+/// How many rows had which answer. A duplicate is one of the others as well: a row whose text, or
+/// one that is the same, stood in a row before it.
 #[derive(Default)]
 struct Tally {
     found: usize,
@@ -226,7 +267,7 @@ impl Tally {
     fn count(&mut self, answer: &Answer) {
         *match answer {
             Answer::Found(_) => &mut self.found,
-            Answer::Absent(_) => &mut self.absent,
+            Answer::Absent(..) => &mut self.absent,
             Answer::Unknown(_) => &mut self.unknown,
             Answer::Refused(_) => &mut self.refused,
         } += 1;

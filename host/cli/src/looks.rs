@@ -1,11 +1,11 @@
-//! What a text looks like that is neither a file number nor a key: words for a person, which decide
-//! nothing.
+//! What a text looks like that is neither a file number nor a key, or a path that is absent: words
+//! for a person, which decide nothing.
 
 /// A kind of text, and what to say of it.
 type Look = (fn(&str) -> bool, &'static str);
 
-/// The kinds; the first that fits counts.
-const LOOKS: [Look; 12] = [
+/// The kinds of any text; the first that fits counts.
+const OF_ANY: [Look; 4] = [
     (
         is_formula,
         "it is a spreadsheet formula: export the values alone",
@@ -22,6 +22,10 @@ const LOOKS: [Look; 12] = [
         |text| text.trim() != text,
         "there are blanks around it: take them away",
     ),
+];
+
+/// The kinds of what should be a file number or a key.
+const OF_NUMBERS: [Look; 8] = [
     (
         is_scientific,
         "it looks like a number in scientific notation: format the column as text, and export again",
@@ -50,10 +54,47 @@ const LOOKS: [Look; 12] = [
     ),
 ];
 
-/// What this text looks like, where that can be told.
+/// The kinds of what should be a path.
+const OF_PATHS: [Look; 6] = [
+    (
+        are_digits,
+        "it is a number: a file number is sought without --path",
+    ),
+    (is_quoted, "there are quotes around it: take them away"),
+    (
+        |text| text.starts_with(SLASHES),
+        "a slash stands before it: a path of a root file begins with a name",
+    ),
+    (
+        |text| text.trim_start_matches('.').starts_with(SLASHES),
+        "dots stand before it: a path of a root file begins with a name",
+    ),
+    (
+        has_drive,
+        "a drive stands before it: a path of a root file begins with a name",
+    ),
+    (
+        |text| !text.contains(SLASHES) && !text.contains('.'),
+        "it has neither a slash nor a dot: is it a path?",
+    ),
+];
+
+const SLASHES: [char; 2] = ['/', '\\'];
+
+/// What a text looks like that is neither a file number nor a key, where that can be told.
 pub fn looks(text: &[u8]) -> Option<&'static str> {
+    first_of(&OF_NUMBERS, text)
+}
+
+/// What a path looks like that no root file has, where that can be told.
+pub fn path_looks(path: &[u8]) -> Option<&'static str> {
+    first_of(&OF_PATHS, path)
+}
+
+/// The first kind that fits, of any text and then of these.
+fn first_of(kinds: &[Look], text: &[u8]) -> Option<&'static str> {
     let text = String::from_utf8_lossy(text);
-    let mut looks = LOOKS.iter();
+    let mut looks = OF_ANY.iter().chain(kinds);
     let look = looks.find(|(is, _)| is(&text));
     look.map(|(_, words)| *words)
 }
@@ -112,4 +153,19 @@ fn has_look_alikes(text: &str) -> bool {
         && text
             .chars()
             .all(|letter| look_alike(letter) || digit(letter))
+}
+
+/// Such as `"Interface"`.
+fn is_quoted(text: &str) -> bool {
+    text.strip_prefix('"')
+        .is_some_and(|rest| rest.ends_with('"'))
+}
+
+/// Such as `C:`.
+fn has_drive(text: &str) -> bool {
+    let mut letters = text.chars();
+    letters
+        .next()
+        .is_some_and(|first| first.is_ascii_alphabetic())
+        && letters.next() == Some(':')
 }

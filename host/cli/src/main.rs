@@ -18,6 +18,7 @@ mod md5;
 mod name;
 mod output;
 mod parallel;
+mod path;
 mod replace;
 mod resolve;
 mod root;

@@ -17,6 +17,7 @@ use std::ffi::{OsStr, OsString};
 use dwarnizza::Worklist;
 use dwarnizza::worklist::Row;
 
+use crate::batch::Texts;
 use crate::command::{Arguments, Choice};
 use crate::input::read;
 use crate::name::{shown, shown_bytes};
@@ -108,8 +109,8 @@ impl File {
         }))
     }
 
-    /// Its rows.
-    pub fn list(&self) -> Result<List<'_>, Failure> {
+    /// Its rows, of which the first may be a header by what such texts are.
+    pub fn list(&self, texts: Texts) -> Result<List<'_>, Failure> {
         let text = &self.bytes[self.skipped..];
         let worklist = Worklist::new(text, self.separator).expect("it may separate");
         let rows: Vec<_> = worklist.rows().collect();
@@ -124,7 +125,8 @@ impl File {
                 ..failure
             }
         };
-        let shape = Shape::of(&rows, &self.asked).map_err(|failure| match failure.status {
+        let shape = Shape::of(&rows, &self.asked, texts);
+        let shape = shape.map_err(|failure| match failure.status {
             Status::Refused => failed(failure).of_file(&self.name),
             _ => failed(failure),
         })?;

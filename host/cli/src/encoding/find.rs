@@ -4,7 +4,7 @@ use dwarnizza::{Key, Refusal};
 
 use super::{Open, UNCHECKED, read, refused};
 use crate::answers::first_and_rest;
-use crate::batch::{Answer, Batch, Names, Teller};
+use crate::batch::{Answer, Batch, Names, Teller, Texts};
 use crate::command::{Arguments, Choice, Command};
 use crate::key_text::{self, key_of_any_length};
 use crate::name::{hex, shown_bytes};
@@ -56,6 +56,7 @@ const NAMES: Names = Names {
     what: "a key",
     field: "key",
     refused: "key",
+    texts: Texts::Plain,
 };
 
 fn run(arguments: &Arguments, output: &mut Output) -> Result<(), Failure> {
@@ -76,7 +77,7 @@ fn run(arguments: &Arguments, output: &mut Output) -> Result<(), Failure> {
         let found = key(text).and_then(|key| find(encoding, key).map_err(failed));
         Some(match found {
             Ok(Some(fields)) => Answer::Found(fields),
-            Ok(None) => Answer::Absent(Vec::new()),
+            Ok(None) => Answer::Absent(Vec::new(), None),
             Err(failure) => Answer::Refused(failure),
         })
     })?;

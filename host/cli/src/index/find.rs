@@ -5,7 +5,7 @@ use std::ffi::OsString;
 use dwarnizza::Key;
 
 use super::search::{Before, INDEX, Searched, index_names, search};
-use crate::batch::{Answer, Batch, Names, Teller};
+use crate::batch::{Answer, Batch, Names, Teller, Texts};
 use crate::command::{Arguments, Choice, Command};
 use crate::files;
 use crate::key_text::{key, key_of_any_length};
@@ -56,6 +56,7 @@ const NAMES: Names = Names {
     what: "a key",
     field: "key",
     refused: "text",
+    texts: Texts::Plain,
 };
 
 fn run(arguments: &Arguments, output: &mut Output) -> Result<(), Failure> {
@@ -104,7 +105,7 @@ fn not_found(searched: &Searched<'_>, text: &[u8]) -> Answer {
     match refusal(text, &searched.key_lengths) {
         Some(why) => Answer::Refused(Failure::unfit(why)),
         None if searched.incomplete => Answer::Unknown(Vec::new()),
-        None => Answer::Absent(Vec::new()),
+        None => Answer::Absent(Vec::new(), None),
     }
 }
 

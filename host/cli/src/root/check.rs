@@ -2,9 +2,7 @@
 
 use std::ffi::OsStr;
 
-use dwarnizza::Root;
-
-use super::{read, refused};
+use super::{checked, read};
 use crate::answers::{CHECK_HELP, each_file};
 use crate::command::{Arguments, Command};
 use crate::output::{Field, Output};
@@ -26,8 +24,5 @@ fn run(arguments: &Arguments, output: &mut Output) -> Result<(), Failure> {
 /// The full check of the file of this name; it has no more to tell.
 fn check(name: &OsStr) -> Result<Vec<Field>, Failure> {
     let file = read(name)?;
-    match Root::check(&file) {
-        Ok(_) => Ok(Vec::new()),
-        Err(refusal) => Err(refused(name, refusal, &file)),
-    }
+    checked(name, &file).map(|_| Vec::new())
 }

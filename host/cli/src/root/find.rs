@@ -1,23 +1,21 @@
-//! `dwarnizza root find`: file numbers in a root file.
+//! `dwarnizza root find`: file numbers or paths in a root file.
 
-use dwarnizza::{CheckedRoot, Root};
-
-use super::{many, read, refused};
+use super::search::{By, Looked, PATH, Search, path_help};
+use super::{checked, read};
 use crate::answers::first_and_rest;
-use crate::batch::{Answer, Batch, Names, Teller};
+use crate::batch::{Answer, Batch, Teller};
 use crate::command::{Arguments, Command};
-use crate::file_number::file_number;
 use crate::masks::{LOCALE, Masks, WITHOUT};
-use crate::name::hex;
-use crate::output::{Output, Value};
+use crate::output::Output;
 use crate::status::Failure;
 use crate::worklist::{self, COLUMN, COLUMN_NAME, HEADER, SEPARATOR, WORKLIST, worklist_help};
 
 pub const COMMAND: Command = Command {
     name: "root find",
-    operands: "FILE [NUMBER]...",
-    summary: "find the content keys of file numbers in a root file, which is checked whole first",
+    operands: "FILE [NUMBER | PATH]...",
+    summary: "find the content keys of file numbers or paths in a root file, which is checked whole first",
     options: &[
+        PATH,
         LOCALE,
         WITHOUT,
         WORKLIST,
@@ -34,59 +32,57 @@ It prints a line for each file number; ROW is the worklist's row, - for a NUMBER
   absent NUMBER ROW
   refused TEXT ROW
       no file number; or a row that has none
+or, with --path, for each path:
+  found PATH NUMBER CONTENT-KEY PLACE ROW
+      NUMBER is the file number of the first record that has the path's name hash
+  absent PATH ROW
+  refused PATH ROW NUMBER PLACE, or refused TEXT ROW
+      longer than 1,024 bytes (110); or empty, or a row that has none
 or one for the file:
   refused FILE NUMBER PLACE
   failed FILE
       it could not be read
 
 ",
+        path_help!(),
+        "\n\n",
         worklist_help!()
     ),
     run,
 };
 
-pub const NAMES: Names = Names {
-    what: "a file number",
-    field: "file_number",
-    refused: "file_number",
-};
-
 fn run(arguments: &Arguments, output: &mut Output) -> Result<(), Failure> {
-    let masks = Masks::of(arguments)?;
+    let (by, masks) = (By::of(arguments), Masks::of(arguments)?);
     let (name, operands) = first_and_rest(arguments)?;
     let list = worklist::File::from_arguments(arguments, output)?;
-    let batch = Batch::new(NAMES, operands, list.as_ref())?;
+    let batch = Batch::new(by.names(), operands, list.as_ref())?;
     output.phase("reading the root file");
     let file = read(name)?;
-    let root = Root::check(&file).map_err(|refusal| refused(name, refusal, &file))?;
-    let rows = batch
-        .sought
-        .iter()
-        .map(|sought| sought.text().filter(|_| sought.row.is_some()));
-    let found = many(root, rows, masks);
+    let root = checked(name, &file)?;
+    let search = Search { root, by, masks };
     let mut teller = Teller::new(&batch);
-    teller.tell(output, |number, text| {
-        let row = batch.sought[number].row;
-        Some(match (file_number(text), row) {
-            (Err(why), _) => Answer::Refused(Failure::unfit(why)),
-            (Ok(id), None) => one(root, id, masks),
-            (Ok(_), Some(_)) => answer(found[number].map(|key| (key, Value::None))),
+    search.all(&batch, output, |searched, output| {
+        teller.tell(output, |number, text| {
+            let row = batch.sought[number].row;
+            Some(answer(search, searched.get(number)?, text, row))
         })
     })?;
     teller.end(output)
 }
 
-/// The answer of one file number, with its place.
-fn one(root: CheckedRoot<'_>, id: u32, Masks { locale, unwanted }: Masks) -> Answer {
-    let found = root.find(id, locale, unwanted);
-    answer(found.map(|record| (record.key, record.place.into())))
-}
-
-fn answer(found: Option<([u8; 16], Value)>) -> Answer {
-    match found {
-        Some((key, place)) => {
-            Answer::Found(vec![("content_key", hex(&key).into()), ("place", place)])
-        }
-        None => Answer::Absent(Vec::new()),
-    }
+/// What is answered. Of a file number that was an operand the place is told, which takes a search of
+/// its own.
+fn answer(search: Search<'_>, looked: &Looked, text: &[u8], row: Option<usize>) -> Answer {
+    let record = match looked {
+        Ok(Some(record)) => record,
+        Ok(None) => return Answer::Absent(Vec::new(), search.by.look(text)),
+        Err(failure) => return Answer::Refused(failure.clone()),
+    };
+    let place = match (record.place, row) {
+        (None, None) => search.place(record.id),
+        (place, _) => place,
+    };
+    let mut fields = record.fields(search.by);
+    fields.push(("place", place.into()));
+    Answer::Found(fields)
 }

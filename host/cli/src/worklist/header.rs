@@ -1,13 +1,41 @@
 //! Whether the first row of a list is a header, where nobody said so.
 
+use crate::batch::Texts;
+
 /// Letters that are read for digits.
 const LOOK_ALIKES: &[u8] = b"OoQqIiLlSsZzBb";
+
+/// What a column of paths is called, in lower case.
+const PATH_WORDS: [&str; 12] = [
+    "path",
+    "paths",
+    "file",
+    "files",
+    "filename",
+    "file name",
+    "file_name",
+    "filepath",
+    "file path",
+    "file_path",
+    "name",
+    "names",
+];
+
+/// Whether this field of the first row is a header's, in a column of such texts. A path may be any
+/// word but those that a column of paths is called.
+pub fn is_header(texts: Texts, field: &[u8]) -> bool {
+    let is = |word: &&str| field.eq_ignore_ascii_case(word.as_bytes());
+    match texts {
+        Texts::Plain => is_plain_word(field),
+        Texts::Paths => PATH_WORDS.iter().any(is),
+    }
+}
 
 /// Whether this is a plain word that is neither near a file number nor near a key. It begins with
 /// a letter and has letters, digits, blanks, `_`, `-` and `.` only. It has more letters than digits,
 /// no three digits in a row, and a letter that is not read for a digit. At most three quarters of
 /// its letters and digits are hex digits.
-pub fn is_plain_word(text: &[u8]) -> bool {
+fn is_plain_word(text: &[u8]) -> bool {
     let count = |is: fn(&u8) -> bool| text.iter().filter(|byte| is(byte)).count();
     let (letters, digits) = (count(u8::is_ascii_alphabetic), count(u8::is_ascii_digit));
     let plain = |byte: &u8| byte.is_ascii_alphanumeric() || b" _-.".contains(byte);

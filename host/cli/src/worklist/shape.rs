@@ -2,8 +2,9 @@
 
 use dwarnizza::worklist::Row;
 
-use super::header::is_plain_word;
+use super::header::is_header;
 use super::{COLUMN, COLUMN_NAME, HEADER};
+use crate::batch::Texts;
 use crate::command::Arguments;
 use crate::name::shown_bytes;
 use crate::status::Failure;
@@ -81,7 +82,7 @@ pub struct Shape {
 }
 
 impl Shape {
-    pub fn of(rows: &[Row<'_>], asked: &Asked) -> Result<Self, Failure> {
+    pub fn of(rows: &[Row<'_>], asked: &Asked, texts: Texts) -> Result<Self, Failure> {
         let Some(row_1) = rows.first().copied() else {
             return Err(Failure::unfit("it is empty, and has no row"));
         };
@@ -92,7 +93,7 @@ impl Shape {
         let first = rows.iter().position(readable);
         let column = column(row_1, first.map(|first| rows[first]), &asked.column)?;
         let field = row_1.field(column).map(|field| field.content());
-        let header = asked.header || field.as_ref().is_some_and(|field| is_plain_word(field));
+        let header = asked.header || field.as_ref().is_some_and(|field| is_header(texts, field));
         let shown = header.then(|| shown_bytes(row_1.bytes()));
         match &shown {
             Some(header) if rows.len() == 1 => Err(Failure::unfit(format!(

@@ -5,6 +5,7 @@ mod written;
 
 use super::shape::Asked;
 use super::{Cell, File, List};
+use crate::batch::Texts;
 use written::Written;
 
 /// How many lists are read, and how many rows each has at most.
@@ -32,7 +33,7 @@ fn compare(written: &Written, header: bool) -> bool {
         separator: written.separator,
         asked: Asked::at(written.column, header),
     };
-    match file.list() {
+    match file.list(Texts::Plain) {
         Ok(list) => {
             let shown = file.bytes.escape_ascii().to_string();
             assert!(!header || list.header().is_some(), "{shown}");
