@@ -6,7 +6,7 @@ use std::fs;
 
 use run::{dwarnizza, expect, folder, output, sample};
 
-const KEY: &str = "2232095610ae8e348070f460643e0eac";
+const KEY: &str = "5300c8e8411fe6ed987425a2914cb20f";
 
 #[test]
 fn key() {

@@ -37,8 +37,8 @@ fn lines(locale: &str, group: Option<&str>) -> (Vec<String>, String) {
     let mut numbers = Vec::new();
     let mut lines = String::new();
     for row in list().iter().filter(|row| row[1] == locale) {
-        let [number, _, content, key, size, offset, archive] = &row[..] else {
-            panic!("a row has seven fields");
+        let [number, _, content, key, size, offset, archive, _] = &row[..] else {
+            panic!("a row has eight fields");
         };
         let place = archives.iter().position(|name| name == archive);
         lines += &match (key.as_str(), place, group) {

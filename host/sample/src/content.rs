@@ -1,6 +1,7 @@
 //! The files of the sample build, and their envelopes.
 
 use second::envelope::{PLAIN, with_table, without_table};
+use second::name_hash::name_hash;
 
 use crate::digest;
 
@@ -37,6 +38,21 @@ pub const LOOSE: u32 = 9002;
 /// The file that has two encoding keys.
 pub const TWICE: u32 = 418;
 
+/// The files with the highest numbers, each the only one of its kind.
+pub const BLOOD: u32 = i32::MAX as u32;
+const BONES: u32 = u32::MAX;
+
+/// The kinds of files: the first number of each, and what stands in paths before and after the two
+/// digits that count from it.
+const KINDS: [(u32, &str, &str); 6] = [
+    (417, r"Interface\Icons\INV_Sample_", ".blp"),
+    (UNKNOWN, r"Creature\Sample\Sample_", ".m2"),
+    (53_183, r"Sound\Music\Sample\Track_", ".mp3"),
+    (1_349_477, r"World\Maps\Sample\Sample_30_", ".adt"),
+    (BLOOD, r"Spells\Sample_Blood_", ".m2"),
+    (BONES, r"Spells\Sample_Bones_", ".m2"),
+];
+
 /// A file of the sample build.
 #[derive(Clone, Debug)]
 pub struct Content {
@@ -61,6 +77,20 @@ impl Content {
             bytes,
             envelope,
         }
+    }
+
+    /// The path: files of one number have one path.
+    pub fn path(&self) -> String {
+        let mut kinds = KINDS.iter().rev();
+        let kind = kinds.find(|(first, ..)| *first <= self.number);
+        let (first, before, after) = kind.expect("no number is below the first");
+        format!("{before}{:02}{after}", self.number - first + 1)
+    }
+
+    /// The name hash of the path.
+    pub fn name_hash(&self) -> [u8; 8] {
+        let hash = name_hash(self.path().as_bytes());
+        hash.expect("the path is short").to_le_bytes()
     }
 
     /// The content key.
@@ -96,7 +126,7 @@ pub fn contents() -> Vec<Content> {
         .chain([UNKNOWN, LOOSE])
         .chain(53_183..53_203)
         .chain(1_349_477..1_349_487)
-        .chain([i32::MAX as u32, u32::MAX])
+        .chain([BLOOD, BONES])
         .map(|number| Content::new(number, Locale::EnUs));
     let german = (417..427).map(|number| Content::new(number, Locale::DeDe));
     english.chain(german).collect()

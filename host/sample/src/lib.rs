@@ -28,6 +28,7 @@ pub fn files() -> Vec<File> {
         ("files.tsv", list(&contents, &archives)),
         ("worklist.csv", worklist::csv(&contents)),
         ("worklist.tsv", worklist::tsv(&contents)),
+        ("paths.csv", worklist::paths(&contents)),
     ] {
         files.push((name.to_string(), text.into_bytes()));
     }
@@ -74,7 +75,8 @@ fn manifests(contents: &[Content]) -> [File; 6] {
 /// The file numbers: a line of tab-separated fields for each, after a line that names the fields.
 /// A dash stands for what the build has not.
 fn list(contents: &[Content], archives: &Archives) -> String {
-    let mut list = "number\tlocale\tcontent key\tencoding key\tsize\toffset\tarchive\n".to_string();
+    let mut list =
+        "number\tlocale\tcontent key\tencoding key\tsize\toffset\tarchive\tpath\n".to_string();
     for content in contents {
         let Content { number, locale, .. } = content;
         let key = hex(&content.key());
@@ -92,8 +94,7 @@ fn list(contents: &[Content], archives: &Archives) -> String {
                 format!("{key}\t{}\t{offset}\t{name}", content.envelope.len())
             }
         };
-        list += &line;
-        list.push('\n');
+        list += &format!("{line}\t{}\n", content.path());
     }
     list
 }

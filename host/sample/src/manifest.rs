@@ -59,13 +59,10 @@ fn records<'a>(contents: impl Iterator<Item = &'a Content>) -> Vec<Record> {
             let number = i64::from(content.number);
             let delta = i32::try_from(number - next).expect("the next number is near");
             next = number + 1;
-            let [name_hash, _] = *digest(&content.number.to_le_bytes()).as_chunks().0 else {
-                unreachable!("a digest has 16 bytes");
-            };
             Record {
                 delta,
                 key: content.key(),
-                name_hash,
+                name_hash: content.name_hash(),
             }
         })
         .collect()

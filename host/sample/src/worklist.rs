@@ -1,6 +1,6 @@
 //! Worklists with the mistakes that spreadsheets make.
 
-use crate::content::Content;
+use crate::content::{BLOOD, Content, LOOSE};
 use crate::hex;
 
 /// The name of a row, its file number and its encoding key.
@@ -40,12 +40,36 @@ fn rows(contents: &[Content]) -> Vec<Row> {
 
 /// With commas, quoted fields where they are wanted, and CRLF.
 pub fn csv(contents: &[Content]) -> String {
-    let mut text = "name,file,key\r\n".to_string();
-    for row in rows(contents) {
-        text += &row.map(|field| quoted(&field)).join(",");
-        text += "\r\n";
-    }
-    text
+    let rows = rows(contents).into_iter().map(csv_row);
+    "name,file,key\r\n".to_string() + &rows.collect::<String>()
+}
+
+/// Names and paths, with either slash and in either case. The same file stands in rows 2 and 3, and
+/// no file has the last path.
+pub fn paths(contents: &[Content]) -> String {
+    let path = |number: u32| {
+        let mut contents = contents.iter();
+        let content = contents.find(|content| content.number == number);
+        content.expect("the build has it").path()
+    };
+    let rows = [
+        ("An icon", path(417)),
+        ("The same icon", path(417).to_lowercase().replace('\\', "/")),
+        ("Music", path(53_189).replace('\\', "/")),
+        ("A map", path(1_349_486).to_uppercase()),
+        ("In no archive", path(LOOSE)),
+        ("Low violence, of course", path(BLOOD)),
+        (
+            "Of another build",
+            r"Interface\Icons\INV_Misc_QuestionMark.blp".to_string(),
+        ),
+    ];
+    let rows = rows.map(|(name, path)| csv_row([name.to_string(), path]));
+    "name,path\r\n".to_string() + &rows.concat()
+}
+
+fn csv_row<const N: usize>(row: [String; N]) -> String {
+    row.map(|field| quoted(&field)).join(",") + "\r\n"
 }
 
 /// File numbers and keys mixed in one column, with tabs and no name that wants quotes.

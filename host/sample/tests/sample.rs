@@ -76,3 +76,26 @@ fn every_other_file_passes_the_checks_of_the_second_program() {
     assert_eq!(second::root::check(&read("root-v2")), Ok(()));
     assert_eq!(second::encoding::check(&read("encoding")), Ok(()));
 }
+
+/// A file is found by its path where its number is, but for the German ones in the root file of
+/// version 2: their block has no name hashes.
+#[test]
+fn every_file_is_found_by_its_path() {
+    let read = |name: &str| fs::read(folder().join(name)).expect("it is there");
+    let list = String::from_utf8(read("files.tsv")).expect("it is text");
+    for line in list.lines().skip(1) {
+        let fields: Vec<_> = line.split('\t').collect();
+        let (number, path) = (fields[0].parse().expect("it is a number"), fields[7]);
+        let locale = if fields[1] == "deDE" { 0x20 } else { 0x2 };
+        for root in ["root-v1", "root-v2"] {
+            let file = read(root);
+            let by_number = second::root::find(&file, number, locale, 0).expect("it is checked");
+            let by_number = by_number.map(|found| (number, found));
+            let has_hashes = root == "root-v1" || locale == 0x2;
+            let expected = by_number.filter(|_| has_hashes);
+            let found = second::root::find_path(&file, path.as_bytes(), locale, 0);
+            assert_eq!(found, Ok(expected), "{line}");
+            assert!(by_number.is_some(), "{line}");
+        }
+    }
+}
