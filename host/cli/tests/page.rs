@@ -69,7 +69,7 @@ fn build() -> PathBuf {
 }
 
 /// Commands, and arguments of theirs that give every answer.
-const RUNS: [(&str, &str); 25] = [
+const RUNS: [(&str, &str); 29] = [
     (
         "resolve",
         "resolve --root root-v1 --encoding encoding --index archives 417 9002 00417",
@@ -81,6 +81,14 @@ const RUNS: [(&str, &str); 25] = [
     (
         "resolve",
         "resolve --root root-v1 --encoding encoding --index encoding 417",
+    ),
+    (
+        "resolve --path",
+        r"resolve --path --root root-v1 --encoding encoding --index archives Interface\Icons\INV_Sample_01.blp a/b.c ",
+    ),
+    (
+        "resolve --path",
+        "resolve --path --root root-v1 --encoding encoding --index encoding --worklist paths.csv --column 2",
     ),
     (
         "index check",
@@ -123,6 +131,14 @@ const RUNS: [(&str, &str); 25] = [
     (
         "root find",
         "root find root-v1 --worklist worklist.csv --column 2",
+    ),
+    (
+        "root find --path",
+        r"root find --path root-v1 Interface\Icons\INV_Sample_01.blp a/b.c ",
+    ),
+    (
+        "root find --path",
+        "root find --path root-v1 --worklist paths.csv --column 2",
     ),
     ("blte open", "blte open encoding.blte -o content"),
     ("blte key", "blte key encoding.blte"),

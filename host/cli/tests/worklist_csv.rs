@@ -22,7 +22,7 @@ const KEYS: u32 = 6;
 fn every_row_is_answered_once() {
     let folder = folder("worklist_csv");
     put(&folder, "index", index(W4, INDEXED, 0));
-    let Some(lists) = written::lists(LISTS, ROWS, 12) else {
+    let Some(lists) = written::lists("keys", LISTS, ROWS, 12) else {
         return;
     };
     for (number, list) in lists.iter().enumerate() {

@@ -14,7 +14,7 @@ const ROWS: usize = 6;
 
 #[test]
 fn every_row_comes_back_as_it_was_meant() {
-    let Some(lists) = written::lists(LISTS, ROWS, 11) else {
+    let Some(lists) = written::lists("keys", LISTS, ROWS, 11) else {
         return;
     };
     let headers = lists.iter().zip([false, true].into_iter().cycle());

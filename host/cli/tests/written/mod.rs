@@ -30,12 +30,14 @@ impl Written {
     }
 }
 
-/// `count` lists of up to `rows` rows; none, which is said, where there is no Python.
-pub fn lists(count: usize, rows: usize, seed: usize) -> Option<Vec<Written>> {
+/// `count` lists of up to `rows` rows, of `keys` or of `paths`; none, which is said, where there is
+/// no Python.
+pub fn lists(kind: &str, count: usize, rows: usize, seed: usize) -> Option<Vec<Written>> {
     let script = Path::new(env!("CARGO_MANIFEST_DIR")).join("tests/written/lists.py");
     let numbers = [count, rows, seed].map(|number| number.to_string());
     let mut python = Command::new("python3");
-    let output = match python.arg("-B").arg(script).args(numbers).output() {
+    python.arg("-B").arg(script).arg(kind).args(numbers);
+    let output = match python.output() {
         Err(error) if error.kind() == ErrorKind::NotFound => {
             println!("python3 is not on this machine, and is left out");
             return None;
