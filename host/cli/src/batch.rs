@@ -231,10 +231,15 @@ impl<'a> Teller<'a> {
     /// Says the counts of the rows: words, or the answer `summary`. All answers must be told.
     pub fn end(self, output: &mut Output) -> Result<(), Failure> {
         assert_eq!(self.told, self.batch.sought.len(), "all are answered");
-        match &self.batch.list {
-            Some(list) => self.tally.say(list, output),
-            None => Ok(()),
+        let Some(list) = &self.batch.list else {
+            return Ok(());
+        };
+        if self.tally.absent > 0
+            && let Some(hint) = list.hint()
+        {
+            output.say(&hint);
         }
+        self.tally.say(list, output)
     }
 }
 

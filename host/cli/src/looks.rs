@@ -63,16 +63,13 @@ const OF_PATHS: [Look; 6] = [
     (is_quoted, "there are quotes around it: take them away"),
     (
         |text| text.starts_with(SLASHES),
-        "a slash stands before it: a path of a root file begins with a name",
+        "a slash stands before it: try the path without",
     ),
     (
         |text| text.trim_start_matches('.').starts_with(SLASHES),
-        "dots stand before it: a path of a root file begins with a name",
+        "dots stand before it: try the path without",
     ),
-    (
-        has_drive,
-        "a drive stands before it: a path of a root file begins with a name",
-    ),
+    (has_drive, "a drive stands before it: try the path without"),
     (
         |text| !text.contains(SLASHES) && !text.contains('.'),
         "it has neither a slash nor a dot: is it a path?",

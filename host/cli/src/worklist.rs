@@ -188,6 +188,12 @@ impl<'a> List<'a> {
         self.shape.header.as_deref()
     }
 
+    /// Words where another separator fits, for what was sought in vain.
+    pub fn hint(&self) -> Option<String> {
+        let hint = self.hint.as_ref()?;
+        Some(format!("{}: {hint}", self.file))
+    }
+
     /// All rows but the header: the number of each, and what it has in the column.
     pub fn cells(&self) -> impl Iterator<Item = (usize, Cell<'a>)> {
         let numbered = (1..).zip(&self.rows);

@@ -357,6 +357,11 @@ fn a_list_of_numbers_and_paths() {
     let plain = "417;interface/icons/inv_sample_01.blp\n5;interface/a.blp\n";
     let hint = "all rows look separated by \";\": --separator ';' reads them so";
     find(&folder, plain, &["--column=2"]).expect(64, "", &["it has no column 2", hint]);
+    let lines = plain.lines().zip(["1", "2"]);
+    let lines: String = lines.map(|(line, row)| absent(line, row)).collect();
+    let said = find(&folder, plain, &[]);
+    said.expect(1, &lines, &[&format!("dwarnizza: list.csv: {hint}\n")]);
+    assert_eq!(said.errors.lines().count(), 2, "{}", said.errors);
     let words = ["it has the columns \"417\", \"interface/icons/inv_sample_01.blp\": --column N"];
     find(&folder, plain, &["--separator=;"]).expect(64, "", &words);
 }
