@@ -151,7 +151,7 @@ fn blocks_without_name_hashes() {
     let said = run(&folder, ["root", "find", "root", "5"]);
     assert!(said.lines.starts_with("found\t5\t0707"), "{}", said.lines);
     let help = run(&folder, ["root", "find", "--help"]).lines;
-    let words = "blocks without name hashes: their files are found by number only";
+    let words = "may have no name hashes: their files are found by number only";
     assert!(help.contains(words), "{help}");
 }
 
@@ -239,6 +239,8 @@ fn empty_paths() {
         "6 rows, row 1 is the header (id,path): 2 found, 0 absent, 0 unknown, 3 refused; 2 duplicate",
     ];
     find(&folder, list, &["--column=2"]).expect(2, &lines, &words);
+    let lines = "refused\t\t1\nrefused\t\t2\n";
+    find(&folder, "\n\n", &[]).expect(2, lines, &["2 rows, no header: 0 found"]);
     let empty = ["root", "find", "--path", "root-v2", "", ICON];
     let lines = "refused\t\t-\n".to_string() + &found(ICON, "-");
     run(&sample(), empty).expect(2, &lines, &["dwarnizza: the path is empty\n"]);

@@ -29,8 +29,8 @@ macro_rules! path_help {
     () => {
         "\
 With --path what is sought is taken as it is given: nothing is trimmed, and it has up to 1,024 bytes.
-It is sought by its name hash, for which / and \\ are the same, and so are a to z and A to Z. A root file
-may have blocks without name hashes: their files are found by number only. Each path takes a pass over
+It is sought by its name hash, for which / and \\ are the same, and so are a to z and A to Z. Blocks of
+a root file may have no name hashes: their files are found by number only. Each path takes a pass over
 the root file. Row 1 of a worklist of paths is a header only with --header or --column-name, or if it
 has in the column a word such as path, file or name and nothing else."
     };
@@ -103,7 +103,7 @@ pub type Looked = Result<Option<Record>, Failure>;
 
 /// What a root file has of all that is sought, as far as it was searched.
 pub struct Searched {
-    /// Of each that is sought the number of its answer; none where it has no text.
+    /// Of each that is sought the number of its answer.
     which: Vec<Option<usize>>,
     answers: Vec<Looked>,
 }
@@ -124,7 +124,7 @@ pub struct Search<'a> {
 }
 
 impl Search<'_> {
-    /// Searches each text once. `known` is called whenever more is known.
+    /// Searches all. `known` is called whenever more is known.
     pub fn all(
         self,
         batch: &Batch<'_>,
@@ -132,43 +132,61 @@ impl Search<'_> {
         mut known: impl FnMut(&Searched, &mut Output) -> Result<(), Failure>,
     ) -> Result<Searched, Failure> {
         output.phase("searching the root file");
-        let (texts, which) = different(batch);
-        let mut searched = Searched {
-            which,
-            answers: Vec::new(),
+        let searched = match self.by {
+            By::Number => self.numbers(batch),
+            By::Path => self.paths(batch, output, &mut known)?,
         };
-        match self.by {
-            By::Number => searched.answers = self.numbers(&texts),
-            By::Path => parallel::each(
-                &texts,
-                |path| self.path(path),
-                |_, looked| {
-                    searched.answers.push(looked);
-                    known(&searched, output)?;
-                    output.progress_of("paths", searched.answers.len(), texts.len());
-                    Ok(())
-                },
-            )?,
-        }
         known(&searched, output)?;
         Ok(searched)
     }
 
     /// All file numbers, in one pass over the file.
-    fn numbers(self, texts: &[&[u8]]) -> Vec<Looked> {
+    fn numbers(self, batch: &Batch<'_>) -> Searched {
         let Masks { locale, unwanted } = self.masks;
-        let ids: Vec<_> = texts.iter().map(|text| file_number(text)).collect();
-        let mut rising: Vec<_> = ids.iter().flatten().copied().collect();
+        let texts = batch.sought.iter().map(|sought| sought.text());
+        let ids: Vec<_> = texts.map(|text| text.map(file_number)).collect();
+        let mut rising: Vec<(u32, usize)> = (0..)
+            .zip(&ids)
+            .filter_map(|(number, id)| Some((*id.as_ref()?.as_ref().ok()?, number)))
+            .collect();
         rising.sort_unstable();
-        let keys = self.root.find_many(&rising, locale, unwanted);
+        let sorted: Vec<_> = rising.iter().map(|(id, _)| *id).collect();
+        let keys = self.root.find_many(&sorted, locale, unwanted);
         let keys = keys.expect("the file is checked and the list rises");
-        let looked = ids.into_iter().map(|id| {
-            let id = id.map_err(Failure::unfit)?;
-            let key = keys[rising.binary_search(&id).expect("it is sought")];
-            let place = None;
-            Ok(key.map(|key| Record { id, key, place }))
+        let which = (0..ids.len()).map(Some).collect();
+        let looked = ids.into_iter().map(|id| match id {
+            Some(Err(why)) => Err(Failure::unfit(why)),
+            Some(Ok(_)) | None => Ok(None),
         });
-        looked.collect()
+        let mut answers: Vec<Looked> = looked.collect();
+        for ((id, number), key) in rising.into_iter().zip(keys) {
+            let place = None;
+            answers[number] = Ok(key.map(|key| Record { id, key, place }));
+        }
+        Searched { which, answers }
+    }
+
+    /// Each different path, on all cores.
+    fn paths(
+        self,
+        batch: &Batch<'_>,
+        output: &mut Output,
+        known: &mut impl FnMut(&Searched, &mut Output) -> Result<(), Failure>,
+    ) -> Result<Searched, Failure> {
+        let (texts, which) = different(batch);
+        let answers = Vec::with_capacity(texts.len());
+        let mut searched = Searched { which, answers };
+        parallel::each(
+            &texts,
+            |path| self.path(path),
+            |_, looked| {
+                searched.answers.push(looked);
+                known(&searched, output)?;
+                output.progress_of("paths", searched.answers.len(), texts.len());
+                Ok(())
+            },
+        )?;
+        Ok(searched)
     }
 
     /// One path, in a pass of its own.

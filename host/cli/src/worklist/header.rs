@@ -57,7 +57,21 @@ fn is_sure_letter(byte: &u8) -> bool {
 
 #[cfg(test)]
 mod tests {
-    use super::is_plain_word;
+    use super::{PATH_WORDS, Texts, is_header, is_plain_word};
+
+    /// A column of paths has a header only by a word that it is called, with nothing beside it.
+    #[test]
+    fn headers_of_paths() {
+        let is = |text: &str| is_header(Texts::Paths, text.as_bytes());
+        for word in PATH_WORDS {
+            assert!(is(word) && is(&word.to_uppercase()), "{word}");
+            for beside in [" ", ".", "/", "\\", "x", "\"", "\0"] {
+                assert!(!is(&format!("{word}{beside}")), "{word}{beside}");
+                assert!(!is(&format!("{beside}{word}")), "{beside}{word}");
+            }
+        }
+        assert!(!is("") && !is("FileDataID") && !is("Interface"));
+    }
 
     #[test]
     fn headers() {
