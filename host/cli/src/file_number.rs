@@ -27,7 +27,7 @@ fn words(text: &[u8], NotFileNumber { fault, place, .. }: NotFileNumber) -> Stri
         }
         NumberFault::NoDigit => {
             let why = format!("\"{}\" is no digit", character(&text[place..]));
-            let help = looks(text).or_else(|| a_key(text));
+            let help = looks(text).or_else(|| a_key(text)).or_else(|| a_path(text));
             help.map_or(why.clone(), |help| format!("{why}; {help}"))
         }
     }
@@ -47,4 +47,9 @@ fn a_key(text: &[u8]) -> Option<&'static str> {
     let key = key_of_any_length(text)?;
     (key.as_bytes().len() == 16)
         .then_some("is it a key? `index find` takes encoding keys, `encoding find` content keys")
+}
+
+fn a_path(text: &[u8]) -> Option<&'static str> {
+    let has_slash = text.iter().any(|byte| b"/\\".contains(byte));
+    has_slash.then_some("is it a path? --path seeks paths")
 }

@@ -83,6 +83,10 @@ fn what_is_no_file_number_is_refused_with_the_words_why() {
         ("417.0", "\".\" is no digit; it looks like a fraction"),
         ("4294967296", "above 4294967295"),
         (ENGLISH, "\"f\" is no digit; is it a key?"),
+        (
+            "Interface/Icons/INV_Sample_01.blp",
+            "\"I\" is no digit; is it a path? --path seeks paths",
+        ),
     ] {
         let refused = format!("refused\t{text}\t-\n");
         expect(

@@ -1,4 +1,4 @@
-//! Worklists with the mistakes that spreadsheets make.
+//! Worklists of numbers and keys, with the mistakes that spreadsheets make, and one of paths.
 
 use crate::content::{BLOOD, Content, LOOSE};
 use crate::hex;
@@ -58,7 +58,7 @@ pub fn paths(contents: &[Content]) -> String {
         ("Music", path(53_189).replace('\\', "/")),
         ("A map", path(1_349_486).to_uppercase()),
         ("In no archive", path(LOOSE)),
-        ("Low violence, of course", path(BLOOD)),
+        ("Blood, low violence", path(BLOOD)),
         (
             "Of another build",
             r"Interface\Icons\INV_Misc_QuestionMark.blp".to_string(),
