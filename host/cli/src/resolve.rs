@@ -190,7 +190,7 @@ impl Chain<'_> {
             Some(Ok(Some(record))) => {
                 follow(encoding, *record).unwrap_or_else(|refusal| Link::Refused(refused(refusal)))
             }
-            Some(Err(failure)) => Link::Refused((*failure).clone()),
+            Some(Err(failure)) => Link::Refused((**failure).clone()),
             Some(Ok(None)) | None => Link::Root,
         };
         follow_all(&looked, follow, output)

@@ -76,7 +76,7 @@ fn answer(search: Search<'_>, looked: &Looked, text: &[u8], row: Option<usize>) 
     let record = match looked {
         Ok(Some(record)) => record,
         Ok(None) => return Answer::Absent(Vec::new(), search.by.look(text)),
-        Err(failure) => return Answer::Refused(failure.clone()),
+        Err(failure) => return Answer::Refused((**failure).clone()),
     };
     let place = match (record.place, row) {
         (None, None) => search.place(record.id),

@@ -98,8 +98,9 @@ impl Record {
     }
 }
 
-/// The record of what is sought, none where it is absent, or why it is refused.
-pub type Looked = Result<Option<Record>, Failure>;
+/// The record of what is sought, none where it is absent, or why it is refused, which is boxed: the
+/// rows of a list are many.
+pub type Looked = Result<Option<Record>, Box<Failure>>;
 
 /// What a root file has of all that is sought, as far as it was searched.
 pub struct Searched {
@@ -155,7 +156,7 @@ impl Search<'_> {
         let keys = keys.expect("the file is checked and the list rises");
         let which = (0..ids.len()).map(Some).collect();
         let looked = ids.into_iter().map(|id| match id {
-            Some(Err(why)) => Err(Failure::unfit(why)),
+            Some(Err(why)) => Err(Box::new(Failure::unfit(why))),
             Some(Ok(_)) | None => Ok(None),
         });
         let mut answers: Vec<Looked> = looked.collect();
