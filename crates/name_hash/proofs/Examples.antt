@@ -8,4 +8,11 @@ use Rattle.name_hash.specs.Examples.{KnownValues}
 
 pub known-values : KnownValues
 unfolding nameHash normalByte within hashlittle2 mixed added start final finalLine mix mixLine lines littleAt ascii
-known-values = record { four-score-c = refl; four-score-b = refl; backslashes = refl; slashes = refl; no-bytes = refl }
+known-values = record {
+  four-score-c = refl;
+  four-score-b = refl;
+  backslashes = refl;
+  slashes = refl;
+  kept-slashes = refl;
+  no-bytes = refl;
+}
