@@ -5,7 +5,7 @@ use std::borrow::Cow;
 use std::collections::HashSet;
 use std::ffi::OsString;
 
-use crate::name::shown_bytes;
+use crate::name::{shown_bytes, shown_path};
 use crate::output::{Field, Output};
 use crate::status::{Failure, Status};
 use crate::worklist::{self, Cell, List};
@@ -32,10 +32,18 @@ pub enum Texts {
 }
 
 impl Texts {
-    fn told(self, text: &[u8]) -> Cow<'_, [u8]> {
+    fn told(self, text: &[u8]) -> String {
         match self {
-            Self::Plain => lower_case(text),
-            Self::Paths => Cow::Borrowed(text),
+            Self::Plain => shown_bytes(&lower_case(text)),
+            Self::Paths => shown_path(text),
+        }
+    }
+
+    /// How a text is told that is refused: as it is given.
+    fn told_refused(self, text: &[u8]) -> String {
+        match self {
+            Self::Plain => shown_bytes(text),
+            Self::Paths => shown_path(text),
         }
     }
 
@@ -194,7 +202,7 @@ impl<'a> Teller<'a> {
             Answer::Unknown(fields) => ("unknown", Status::Refused, fields, None),
             Answer::Refused(failure) => return self.refuse(sought, failure, output),
         };
-        let text = shown_bytes(&texts.told(sought.text().unwrap_or_default()));
+        let text = texts.told(sought.text().unwrap_or_default());
         let odd = look.map(|look| format!("\"{text}\" is absent; {look}"));
         let mut fields = vec![(field, text.into())];
         fields.extend(more);
@@ -220,7 +228,7 @@ impl<'a> Teller<'a> {
             }
             Cell::Fault(_, row) => (*row, failure),
         };
-        let text = shown_bytes(text);
+        let text = self.batch.names.texts.told_refused(text);
         let fields = vec![
             (self.batch.names.refused, text.into()),
             ("row", sought.row.into()),

@@ -20,6 +20,16 @@ pub fn shown_bytes(bytes: &[u8]) -> String {
     text
 }
 
+/// A path on one line, with its own backslashes: as it is given, where it is printable text, and
+/// else escaped as every other text is.
+pub fn shown_path(path: &[u8]) -> String {
+    let escaped = shown_bytes(path);
+    match str::from_utf8(path) {
+        Ok(path) if escaped == path.replace('\\', r"\\") => path.to_string(),
+        _ => escaped,
+    }
+}
+
 fn push(text: &mut String, character: char) {
     match character {
         '\\' => text.push_str(r"\\"),

@@ -4,7 +4,7 @@ use dwarnizza::root::PathRecord;
 use dwarnizza::{CheckedRoot, Refusal};
 
 use crate::masks::Masks;
-use crate::name::shown_bytes;
+use crate::name::shown_path;
 use crate::status::Failure;
 
 /// How many bytes of a path that is too long are named in words.
@@ -27,7 +27,7 @@ pub fn find(
 /// The library refused this path.
 fn refused(path: &[u8], refusal: Refusal) -> Failure {
     let length = path.len();
-    let begin = shown_bytes(&path[..length.min(NAMED)]);
+    let begin = shown_path(&path[..length.min(NAMED)]);
     let words = format!("the path that begins with \"{begin}\" has {length} bytes: {refusal}");
     Failure {
         refusal: Some(refusal),

@@ -55,17 +55,12 @@ fn root_of(records: &[(i32, [u8; 16], &[u8])]) -> Vec<u8> {
     second::root::write(None, &[block])
 }
 
-/// A text as answers show it that has no other special character than backslashes.
-fn shown(text: &str) -> String {
-    text.replace('\\', r"\\")
-}
-
 fn found(path: &str, row: &str) -> String {
-    format!("found\t{}\t417\t{ENGLISH}\t249\t{row}\n", shown(path))
+    format!("found\t{path}\t417\t{ENGLISH}\t249\t{row}\n")
 }
 
 fn absent(path: &str, row: &str) -> String {
-    format!("absent\t{}\t{row}\n", shown(path))
+    format!("absent\t{path}\t{row}\n")
 }
 
 /// The texts that tell the icon's path.
@@ -97,7 +92,7 @@ fn either_slash_and_either_case() {
 #[test]
 fn both_layouts_with_their_places() {
     for (root, place) in [("root-v1", 220), ("root-v2", 249)] {
-        let line = format!("found\t{}\t417\t{ENGLISH}\t{place}\t-\n", shown(ICON));
+        let line = format!("found\t{ICON}\t417\t{ENGLISH}\t{place}\t-\n");
         run(&sample(), ["root", "find", "--path", root, ICON]).expect(0, &line, &[]);
         let bytes = fs::read(sample().join(root)).expect("it is there");
         let key: String = bytes[place..][..16]
@@ -113,7 +108,7 @@ fn both_layouts_with_their_places() {
 fn locales_and_content_flags() {
     let find = |root, option, path| run(&sample(), ["root", "find", "--path", root, option, path]);
     let german = find("root-v1", "--locale=deDE", ICON).lines;
-    let begins = format!("found\t{}\t417\t{GERMAN}\t", shown(ICON));
+    let begins = format!("found\t{ICON}\t417\t{GERMAN}\t");
     assert!(german.starts_with(&begins), "{german}");
     find("root-v2", "--locale=deDE", ICON).expect(1, &absent(ICON, "-"), &[]);
     find("root-v2", "--locale=0x22", ICON).expect(0, &found(ICON, "-"), &[]);
@@ -155,15 +150,15 @@ fn blocks_without_name_hashes() {
     assert!(help.contains(words), "{help}");
 }
 
-/// Paths of any bytes, and as answers show them, which is how they show names. What is found is not
-/// judged.
+/// Paths of any bytes, and as answers show them: printable text as it is, and what else there may
+/// be as names are shown. What is found is not judged.
 const TOLD: [(&[u8], &str); 8] = [
     (b"A\tB.blp", r"A\tB.blp"),
     (b"say \"A\".blp", "say \"A\".blp"),
     (b"A\xff\xfe.blp", r"A\xff\xfe.blp"),
     (b"A\nB.blp", r"A\nB.blp"),
     ("\u{c4}rger/\u{d6}.blp".as_bytes(), "\u{c4}rger/\u{d6}.blp"),
-    (b"A\\x41.blp", r"A\\x41.blp"),
+    (b"A\\x41.blp", r"A\x41.blp"),
     (b"A\x01.blp", r"A\x01.blp"),
     (b" /A.blp ", " /A.blp "),
 ];
@@ -270,7 +265,7 @@ const ODD: [(&str, &str); 13] = [
 fn absent_paths_that_look_odd() {
     let folder = folder("path_odd");
     for (path, words) in ODD {
-        let words = format!("\"{}\" is absent; {words}", shown(path));
+        let words = format!("\"{path}\" is absent; {words}");
         run(&sample(), ["root", "find", "--path", "root-v2", path]).expect(
             1,
             &absent(path, "-"),
@@ -380,7 +375,7 @@ fn duplicates() {
     assert!(said.errors.contains(words), "{}", said.errors);
     let lines: Vec<_> = said.lines.lines().collect();
     for (line, path) in lines.iter().zip(&rows) {
-        assert_eq!(line.split('\t').nth(1), Some(&shown(path)[..]));
+        assert_eq!(line.split('\t').nth(1), Some(*path));
     }
     assert_eq!(lines.len(), rows.len());
 }
@@ -390,14 +385,14 @@ fn json() {
     let folder = folder("path_json");
     let list = format!("path\n{ICON}\na/b.c\n\"\"\n");
     let said = find(&folder, list, &["--json"]);
-    let lines = r#"{"answer":"found","path":"Interface\\\\Icons\\\\INV_Sample_01.blp","file_number":417,"content_key":"6667801fc2955e23a72749749811a86d","place":249,"row":2}
+    let lines = r#"{"answer":"found","path":"Interface\\Icons\\INV_Sample_01.blp","file_number":417,"content_key":"6667801fc2955e23a72749749811a86d","place":249,"row":2}
 {"answer":"absent","path":"a/b.c","row":3}
 {"answer":"refused","path":"","row":4,"words":"list.csv: column path, row 4: the path is empty"}
 {"answer":"summary","rows":4,"header_row":1,"header":"path","found":1,"absent":1,"unknown":0,"refused":1,"duplicate":0}
 "#;
     assert_eq!((said.lines, said.status), (lines.to_string(), 2));
     let resolved = run(&sample(), build("root-v2").iter().chain(&["--json", ICON]));
-    let begins = r#"{"answer":"found","path":"Interface\\\\Icons\\\\INV_Sample_01.blp","file_number":417,"content_key":"6667801fc2955e23a72749749811a86d","key":"ae5da97c10327bc86eb33511688654da","size":134,"archive":null,"offset":0,"index":"#;
+    let begins = r#"{"answer":"found","path":"Interface\\Icons\\INV_Sample_01.blp","file_number":417,"content_key":"6667801fc2955e23a72749749811a86d","key":"ae5da97c10327bc86eb33511688654da","size":134,"archive":null,"offset":0,"index":"#;
     assert!(resolved.lines.starts_with(begins), "{}", resolved.lines);
 }
 
@@ -428,7 +423,7 @@ fn resolve_gives_what_the_number_gives() {
             let (number, behind) = rest.split_once('\t').expect("it has fields");
             assert_eq!(number, file[0]);
             let rest = if word == "found" { rest } else { behind };
-            format!("{word}\t{}\t{rest}\n", shown(file[7]))
+            format!("{word}\t{}\t{rest}\n", file[7])
         });
         assert_eq!(by_path.lines, lines.collect::<String>());
     }
@@ -473,20 +468,20 @@ fn resolve_answers_a_worklist_row_by_row() {
     };
     let answers: Vec<_> = said.lines.lines().map(answer).collect();
     let expected = [
-        ("found", r"Interface\\Icons\\INV_Sample_01.blp", "417", "2"),
+        ("found", r"Interface\Icons\INV_Sample_01.blp", "417", "2"),
         ("found", "interface/icons/inv_sample_01.blp", "417", "3"),
         ("found", "Sound/Music/Sample/Track_07.mp3", "53189", "4"),
         (
             "found",
-            r"WORLD\\MAPS\\SAMPLE\\SAMPLE_30_10.ADT",
+            r"WORLD\MAPS\SAMPLE\SAMPLE_30_10.ADT",
             "1349486",
             "5",
         ),
-        ("absent", r"Creature\\Sample\\Sample_02.m2", "index", "6"),
-        ("found", r"Spells\\Sample_Blood_01.m2", "2147483647", "7"),
+        ("absent", r"Creature\Sample\Sample_02.m2", "index", "6"),
+        ("found", r"Spells\Sample_Blood_01.m2", "2147483647", "7"),
         (
             "absent",
-            r"Interface\\Icons\\INV_Misc_QuestionMark.blp",
+            r"Interface\Icons\INV_Misc_QuestionMark.blp",
             "root",
             "8",
         ),
