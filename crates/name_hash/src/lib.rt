@@ -15,10 +15,10 @@ ghost use Rattle.name_hash.specs.NameHash as spec;
 // The greatest length of a path.
 pub const MOST_PATH: usize = 1024;
 
-// The greatest length of a path that room of 128 bytes holds with 12 zeros behind it.
-const SHORT_PATH: usize = 116;
+// The greatest length of a short path, as most are.
+const SHORT_PATH: usize = 128;
 
-// What a path tells.
+// The name hash of a path, or why it has none.
 pub enum Hashed {
     Hash(u64),
     Refused(Refusal),
@@ -93,7 +93,7 @@ fn final_mix(w: Words) -> Words
 
 // The three words at an offset added to a, b and c.
 fn add(w: Words, s: &[u8], at: usize) -> Words
-    requires { ⌜ at + 12 ≤ length (now s) ⌝ }
+    requires { ⌜ at ≤ length (now s) ⌝ }
     ensures { λ r. ⌜ r ≡ little.addedAt (now (s .entry)) at w ⌝ }
 {
     Words {
@@ -103,6 +103,7 @@ fn add(w: Words, s: &[u8], at: usize) -> Words
     }
 }
 
+// a, b and c before the first of `count` bytes.
 fn start(count: u32) -> Words
     ensures { λ r. ⌜ r ≡ little.start count ⌝ }
 {
@@ -126,7 +127,7 @@ fn mix_blocks(s: &[u8], count: u32, n: usize) -> Words
 
 // The words after `count` bytes: the blocks, and then the last 1 to 12 bytes with those behind them.
 fn end(s: &[u8], count: u32) -> Words
-    requires { ⌜ (0 < count) × (count + 12 ≤ length (now s)) ⌝ }
+    requires { ⌜ (0 < count) × (count ≤ length (now s)) ⌝ }
     ensures { λ r. ⌜ r ≡ little.ended count (now (s .entry)) ⌝ }
 {
     let n = (count as usize - 1) / 12;
@@ -156,14 +157,14 @@ fn normalize(path: &[u8], room: &mut [u8])
     }
 }
 
-// Room for the longest path and 12 zeros.
-fn zeros() -> [u8; 1036]
-    ensures { λ r. ⌜ r ≡ replicate 1036 0 ⌝ }
+// Room for the longest path.
+fn zeros() -> [u8; MOST_PATH]
+    ensures { λ r. ⌜ r ≡ replicate 1024 0 ⌝ }
 {
-    [0u8; 1036]
+    [0u8; MOST_PATH]
 }
 
-// A path of any length, stored as it is hashed, with 12 zeros or more behind it: the compiler then changes 16 bytes at a time.
+// A path of any length, stored as it is hashed, in front of zeros: the compiler then changes 16 bytes at a time.
 fn hash_long(path: &[u8]) -> Words
     requires { ⌜ (0 < length (now path)) × (length (now path) ≤ spec.mostPath) ⌝ }
     ensures { λ r. ⌜ r ≡ little.hashlittle2 (spec.normalized (now (path .entry))) ⌝ }
@@ -173,16 +174,17 @@ fn hash_long(path: &[u8]) -> Words
     end(&room, path.len() as u32)
 }
 
-// The same for a short path, as most are: to clear the greater room would cost as much as the hash.
+// The same for a short path: to clear the greater room would cost as much as the hash.
 fn hash_short(path: &[u8]) -> Words
-    requires { ⌜ (0 < length (now path)) × (length (now path) ≤ 116) ⌝ }
+    requires { ⌜ (0 < length (now path)) × (length (now path) ≤ 128) ⌝ }
     ensures { λ r. ⌜ r ≡ little.hashlittle2 (spec.normalized (now (path .entry))) ⌝ }
 {
-    let mut room = [0u8; 128];
+    let mut room = [0u8; SHORT_PATH];
     normalize(path, &mut room);
     end(&room, path.len() as u32)
 }
 
+// a, b and c at the end of a path.
 fn hash_words(path: &[u8]) -> Words
     requires { ⌜ length (now path) ≤ spec.mostPath ⌝ }
     ensures { λ r. ⌜ r ≡ little.hashlittle2 (spec.normalized (now (path .entry))) ⌝ }

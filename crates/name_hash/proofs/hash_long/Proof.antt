@@ -1,4 +1,4 @@
--- `name_hash::hash_long`: the path in front of zeros, 12 of them or more.
+-- `name_hash::hash_long`: the path in front of zeros.
 use mathlib.Core.Path.{ap, _∙_}
 use borrow.Author.Needs.{needs}
 use Rattle.parts.specs.Part.{overlay}
@@ -13,7 +13,7 @@ returns c =
     let z = n .before .before in
     let start = z .before .before in
     let path = start .args .path .now in
-    hash-some path _ 1036 (start .pre .0) (search needs) (n .normalize .ensures ∙ ap (λ r. overlay r 0 (normalized path)) (z .zeros .ensures))
+    hash-some path _ 1024 (start .pre .0) (search needs) (n .normalize .ensures ∙ ap (λ r. overlay r 0 (normalized path)) (z .zeros .ensures))
     (c .end .ensures)
 
 pub hash-long-spec : {M : Type 1} → statement M

@@ -1,4 +1,4 @@
--- `name_hash::hash_short`: the path in front of zeros, 12 of them or more.
+-- `name_hash::hash_short`: the path in front of zeros.
 use borrow.Author.Needs.{needs}
 use Rattle.name_hash.proofs.Laws.{hash-some}
 use Rattle.name_hash.proofs.hash_short.Statement.{statement}
