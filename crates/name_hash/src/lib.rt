@@ -158,10 +158,10 @@ fn normalize(path: &[u8], room: &mut [u8])
 }
 
 // Room for the longest path.
-fn zeros() -> [u8; MOST_PATH]
+fn zeros() -> [u8; 1024]
     ensures { λ r. ⌜ r ≡ replicate 1024 0 ⌝ }
 {
-    [0u8; MOST_PATH]
+    [0u8; 1024]
 }
 
 // A path of any length, stored as it is hashed, in front of zeros: the compiler then changes 16 bytes at a time.
