@@ -68,7 +68,8 @@ pub extern "C" fn dwarnizza_root_find_path(
     answer: &mut [u64; 8],
 ) -> u32
     ensures { λ r. ⌜ Crosses (pathLookup (now (file .entry)) (now (path .entry)) locale unwanted) r (now (answer .exit)) ⌝ }
-    ensures { λ _. ⌜ now (key .exit) ≡ paths.keyOr (now (file .entry)) (now (key .entry)) (pathLookup (now (file .entry)) (now (path .entry)) locale unwanted) ⌝ }
+    ensures { λ _. ⌜ now (key .exit)
+        ≡ paths.keyOr (now (file .entry)) (now (key .entry)) (pathLookup (now (file .entry)) (now (path .entry)) locale unwanted) ⌝ }
 {
     tell_record(
         root_find_path::find_path(file, path, locale, unwanted),

@@ -28,4 +28,13 @@ returns-2 c =
     (c .find-hash .ensures .0 ∙ o, c .find-hash .ensures .1 ∙ ap (keyOr (a .file .now) (replicate 16 0)) o)
 
 pub find-path-spec : {M : Type 1} → statement M
-find-path-spec = tie.close (tie.spec (λ c κs. search needs) (λ c. search needs) (λ c κs. search needs) (λ c. search needs) (λ c κs. search needs) returns returns-2)
+find-path-spec =
+    tie.close
+    (tie.spec
+    (λ c κs. search needs)
+    (λ c. search needs)
+    (λ c κs. search needs)
+    (λ c. search needs)
+    (λ c κs. search needs)
+    returns
+    returns-2)
