@@ -77,7 +77,7 @@ block l deltas =
     ++ deltaBytes deltas
     ++ keys l (eqb (l .«no_hashes») 0) (length deltas)
 
--- The layouts of files without magic, with a short header, and with a long one of a bytes and b = 2.
+-- The layouts of files without magic, with a short header, and with a long one of a bytes and b = 2 or b = 1.
 abbrev pub noMagic : Layout
 noMagic = layoutFor 0 noMagicVersion
 
@@ -86,6 +86,13 @@ short = layoutFor 12 shortVersion
 
 abbrev pub long : ℕ → Layout
 long a = layoutFor a 2
+
+abbrev pub long1 : ℕ → Layout
+long1 a = layoutFor a 1
+
+-- A file of n bytes that begins with a magic and the numbers a and b.
+abbrev pub headerOf : (n a b : ℕ) → List ℕ
+headerOf n a b = ascii "MFST" ++ littleBytes 4 a ++ littleBytes 4 b ++ replicate (n - 12) 0
 
 -- A root file with the numbers a and b = 2, which end at byte 12, and a block of these deltas where the layout has the first.
 abbrev pub rootWith : ℕ → Layout → List ℤ → List ℕ

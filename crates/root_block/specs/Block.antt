@@ -1,4 +1,4 @@
--- A block of a root file under a layout: rules R7, R8, R12 and R14. The bytes b begin with the block.
+-- A block of a root file under a layout: rules R7, R8, R12, R14 and R24. The bytes b begin with the block.
 use mathlib.Core.Bool.{Bool, not, _&&_, cond}
 use mathlib.Core.List.{List}
 use Prim.Native.Nat.{ℕ, _+_, _*_}
@@ -29,7 +29,7 @@ blockOf l b = record {
   content = littleAt b (contentAt l) (contentSize l);
 }
 
--- A block has name hashes unless a content bit drops them (rule R8).
+-- A block has name hashes unless a content bit drops them (rules R8, R24).
 abbrev pub hasHashes : Layout → Block → Bool
 hasHashes l k = eqb (bitAnd (k .content) (l .«no_hashes»)) 0
 
@@ -37,7 +37,7 @@ hasHashes l k = eqb (bitAnd (k .content) (l .«no_hashes»)) 0
 abbrev pub hashSize : Layout → Block → ℕ
 hashSize l k = cond (hasHashes l k) nameHashSize 0
 
--- The bytes of a block: header, deltas, keys and name hashes (rules R7, R8).
+-- The bytes of a block: header, deltas, keys and name hashes (rules R7, R8, R24).
 unfoldable pub blockSize : Layout → Block → ℕ
 blockSize l k = headerSize l + (deltaSize + keySize + hashSize l k) * k .count
 
@@ -45,7 +45,7 @@ blockSize l k = headerSize l + (deltaSize + keySize + hashSize l k) * k .count
 unfoldable pub deltasOf : Layout → List ℕ → List ℕ
 deltasOf l b = partAt b (headerSize l) (deltaSize * blockOf l b .count)
 
--- Where the key of record i stands: after the deltas, with its name hash (rule R7) or with the keys alone (rule R8).
+-- Where the key of record i stands: after the deltas, with its name hash (rule R7) or with the keys alone (rules R8, R24).
 abbrev pub keysAt : Layout → Block → ℕ
 keysAt l k = headerSize l + deltaSize * k .count
 

@@ -40,7 +40,7 @@ version s = littleAt s versionAt 4
 abbrev pub shortHeader : ℕ
 shortHeader = 12
 
--- With a magic, a from 16 to 99 and b from 2 to 4 the header is long and has a bytes (rule R4); otherwise it has 12 (rule R5).
+-- With a magic, a from 16 to 99 and b from 1 to 4 the header is long and has a bytes (rule R4); otherwise it has 12 (rule R5).
 abbrev pub leastLong : ℕ
 leastLong = 16
 
@@ -48,7 +48,7 @@ abbrev pub mostLong : ℕ
 mostLong = 99
 
 abbrev pub leastVersion : ℕ
-leastVersion = 2
+leastVersion = 1
 
 abbrev pub mostVersion : ℕ
 mostVersion = 4
@@ -67,7 +67,7 @@ blocksStart s = cond (hasMagic s) (cond (longNumbers s) (headerBytes s) shortHea
 abbrev pub blocksVersion : List ℕ → ℕ
 blocksVersion s = cond (hasMagic s) (cond (longNumbers s) (version s) shortVersion) noMagicVersion
 
--- How the blocks are laid out (rules R7, R8).
+-- How the blocks are laid out (rules R7, R8, R24).
 unfoldable pub layoutOf : List ℕ → Layout
 layoutOf s = layoutFor (blocksStart s) (blocksVersion s)
 

@@ -1,4 +1,4 @@
--- How the blocks of a root file are laid out, as a value: rules R7 and R8.
+-- How the blocks of a root file are laid out, as a value: rules R7, R8 and R24.
 use mathlib.Core.Bool.{true, false, cond}
 use Prim.Native.Nat.{ℕ, _+_}
 use lib.Dec.{eqb}
@@ -35,40 +35,32 @@ contentAt l = cond (l .«locale_first») (countSize + localeSize) countSize
 unfoldable pub headerSize : Layout → ℕ
 headerSize l = countSize + localeSize + contentSize l + l .unknown
 
--- Content bit 13.
+-- Content bit 28: a block that has it has no name hashes, but in a file without a magic (rules R8, R24).
 abbrev pub noNameHashes : ℕ
-noNameHashes = 8192
+noNameHashes = 268435456
 
--- Version 1: count, content flags, locale flags, deltas, then for each record key and name hash (rule R7).
+-- Without a magic: count, content flags, locale flags, deltas, then for each record key and name hash (rule R7).
+abbrev pub withoutMagic : ℕ → Layout
+withoutMagic start = record { start = start; «locale_first» = false; «wide_content» = false; unknown = 0; interleaved = true; «no_hashes» = 0 }
+
+-- Version 1: count, content flags, locale flags, deltas, all keys, then all name hashes unless content bit 28 is set (rule R24).
 abbrev pub version1 : ℕ → Layout
-version1 start = record {
-  start = start;
-  «locale_first» = false;
-  «wide_content» = false;
-  unknown = 0;
-  interleaved = true;
-  «no_hashes» = 0;
-}
+version1 start = record { start = start; «locale_first» = false; «wide_content» = false; unknown = 0; interleaved = false; «no_hashes» = noNameHashes }
 
--- All others: count, locale flags, content flags, 4 and 1 unknown bytes, deltas, all keys, then all name hashes unless content bit 13
--- is set (rule R8).
-abbrev pub later : ℕ → Layout
-later start = record {
-  start = start;
-  «locale_first» = true;
-  «wide_content» = false;
-  unknown = unknownSize;
-  interleaved = false;
-  «no_hashes» = noNameHashes;
-}
+-- Versions 2 and 3: count, locale flags, content flags, 4 and 1 unknown bytes, deltas, all keys, then all name hashes unless content
+-- bit 28 is set (rule R8).
+abbrev pub version2 : ℕ → Layout
+version2 start = record { start = start; «locale_first» = true; «wide_content» = false; unknown = unknownSize; interleaved = false; «no_hashes» = noNameHashes }
 
--- The version that the blocks of a file without magic are laid out by (rule R2), and that of a file with a short header (rule R5).
+-- The version that the blocks of a file without magic are laid out by (rule R2), which no long header has, and that of a file with a
+-- short header (rule R5).
 abbrev pub noMagicVersion : ℕ
-noMagicVersion = 1
+noMagicVersion = 0
 
 abbrev pub shortVersion : ℕ
-shortVersion = 2
+shortVersion = 1
 
 -- The layout of blocks of a version that begin at a byte.
 unfoldable pub layoutFor : (start version : ℕ) → Layout
-layoutFor start version = cond (eqb version noMagicVersion) (version1 start) (later start)
+layoutFor start version =
+    cond (eqb version noMagicVersion) (withoutMagic start) (cond (eqb version shortVersion) (version1 start) (version2 start))

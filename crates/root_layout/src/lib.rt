@@ -26,7 +26,7 @@ pub const LEAST_LONG: u32 = 16;
 
 pub const MOST_LONG: u32 = 99;
 
-pub const LEAST_VERSION: u32 = 2;
+pub const LEAST_VERSION: u32 = 1;
 
 pub const MOST_VERSION: u32 = 4;
 
@@ -35,10 +35,11 @@ pub const LEAST_SIZE: u32 = 20;
 
 pub const REFUSED_VERSION: u32 = 4;
 
-// The versions that the blocks of a file without magic, and of one with a short header, are laid out by.
-pub const NO_MAGIC_VERSION: u32 = 1;
+// The versions that the blocks of a file without magic, and of one with a short header, are laid out by. No long header has the
+// first.
+pub const NO_MAGIC_VERSION: u32 = 0;
 
-pub const SHORT_VERSION: u32 = 2;
+pub const SHORT_VERSION: u32 = 1;
 
 // The bytes of a block header's count and locale flags, of its content flags, and of the unknown bytes after them.
 pub const COUNT_SIZE: usize = 4;
@@ -51,8 +52,8 @@ pub const WIDE_CONTENT_SIZE: usize = 5;
 
 pub const UNKNOWN_SIZE: u8 = 5;
 
-// Content bit 13.
-pub const NO_NAME_HASHES: u64 = 8192;
+// Content bit 28.
+pub const NO_NAME_HASHES: u64 = 0x1000_0000;
 
 // How the blocks of a root file are laid out. Every value is answered for: the types keep each sum within its range.
 pub struct Layout {
@@ -132,6 +133,16 @@ fn layout_for(start: u32, version: u32) -> Layout
             unknown: 0,
             interleaved: true,
             no_hashes: 0,
+        };
+    }
+    if version == SHORT_VERSION {
+        return Layout {
+            start,
+            locale_first: false,
+            wide_content: false,
+            unknown: 0,
+            interleaved: false,
+            no_hashes: NO_NAME_HASHES,
         };
     }
     Layout {
