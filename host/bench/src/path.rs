@@ -66,7 +66,7 @@ fn print_lookups() {
          program | Path / id | Library / second |"
     );
     println!("|---|---|---|---|---|---|");
-    for (header, kind) in [(None, "version 1"), (LONG, "long header")] {
+    for (header, kind) in [(None, "without magic"), (LONG, "long header")] {
         let file = File::new(header, BLOCKS, 1000);
         assert_eq!(file.records(), 1_500_000);
         let (last, id) = (path(file.records() - 1), file.last_id(BLOCKS - 1));

@@ -121,10 +121,14 @@ impl File {
 
 /// Prints the lines.
 pub fn measure(table: &mut Table) {
-    let of_version_1 = BLOCKS.map(|blocks| File::new(None, blocks, ENTRIES));
+    let without_magic = BLOCKS.map(|blocks| File::new(None, blocks, ENTRIES));
     let with_header = BLOCKS.map(|blocks| File::new(LONG, blocks, ENTRIES));
     let check = |file, kind| File::call(file, &ROOT_CHECK, kind);
-    table.calls(of_version_1.iter().map(|file| check(file, ", version 1")));
+    table.calls(
+        without_magic
+            .iter()
+            .map(|file| check(file, ", without magic")),
+    );
     table.calls(with_header.iter().map(|file| check(file, ", long header")));
     let files = with_header.iter();
     table.calls(

@@ -6,7 +6,7 @@ use std::fs;
 
 use run::{dwarnizza, expect, folder, output, sample};
 
-const KEY: &str = "5300c8e8411fe6ed987425a2914cb20f";
+const KEY: &str = "8cffb15a2230cd81b72b154219da4480";
 
 #[test]
 fn key() {
@@ -18,7 +18,7 @@ fn key() {
 
 #[test]
 fn open_to_standard_output() {
-    for name in ["encoding", "root-v1", "root-v2"] {
+    for name in ["encoding", "root-v1", "root-short", "root-v2"] {
         let envelope = format!("{name}.blte");
         let opened = output(dwarnizza(["blte", "open", &envelope]), &sample(), b"");
         assert!(opened.status.success() && opened.stderr.is_empty());

@@ -38,8 +38,8 @@ fn find(folder: &Path, list: impl AsRef<[u8]>, options: &[&str]) -> Run {
     run(folder, find.iter().chain(options))
 }
 
-/// A root file of version 1 with these records: how far each id is from the one before, its content
-/// key and its path.
+/// A root file without a magic, of these records: how far each id is from the one before, its
+/// content key and its path.
 fn root_of(records: &[(i32, [u8; 16], &[u8])]) -> Vec<u8> {
     let records = records.iter().map(|(delta, key, path)| Record {
         delta: *delta,
@@ -90,8 +90,8 @@ fn either_slash_and_either_case() {
 }
 
 #[test]
-fn both_layouts_with_their_places() {
-    for (root, place) in [("root-v1", 220), ("root-v2", 249)] {
+fn every_layout_with_its_places() {
+    for (root, place) in [("root-v1", 220), ("root-short", 232), ("root-v2", 249)] {
         let line = format!("found\t{ICON}\t417\t{ENGLISH}\t{place}\t-\n");
         run(&sample(), ["root", "find", "--path", root, ICON]).expect(0, &line, &[]);
         let bytes = fs::read(sample().join(root)).expect("it is there");
@@ -103,16 +103,18 @@ fn both_layouts_with_their_places() {
     }
 }
 
-/// Which blocks are searched. That of the German files has name hashes in the first layout alone.
+/// Which blocks are searched. That of the German files has name hashes without a magic alone.
 #[test]
 fn locales_and_content_flags() {
     let find = |root, option, path| run(&sample(), ["root", "find", "--path", root, option, path]);
     let german = find("root-v1", "--locale=deDE", ICON).lines;
     let begins = format!("found\t{ICON}\t417\t{GERMAN}\t");
     assert!(german.starts_with(&begins), "{german}");
-    find("root-v2", "--locale=deDE", ICON).expect(1, &absent(ICON, "-"), &[]);
+    for root in ["root-short", "root-v2"] {
+        find(root, "--locale=deDE", ICON).expect(1, &absent(ICON, "-"), &[]);
+    }
     find("root-v2", "--locale=0x22", ICON).expect(0, &found(ICON, "-"), &[]);
-    for root in ["root-v1", "root-v2"] {
+    for root in ["root-v1", "root-short", "root-v2"] {
         let bones = r"Spells\Sample_Bones_01.m2";
         let said = find(root, "--without=0x40", bones).lines;
         assert!(said.contains("\t4294967295\t"), "{said}");
@@ -135,16 +137,16 @@ fn blocks_without_name_hashes() {
         unknown: [0; 5],
         records,
     };
-    let header = Header {
-        magic: *b"TSFM",
-        a: 24,
-        b: 2,
-    };
-    put(&folder, "root", second::root::write(Some(header), &[block]));
     let path = "a/b.c";
-    run(&folder, ["root", "find", "--path", "root", path]).expect(1, &absent(path, "-"), &[]);
-    let said = run(&folder, ["root", "find", "root", "5"]);
-    assert!(said.lines.starts_with("found\t5\t0707"), "{}", said.lines);
+    for (a, b) in [(1, 0), (24, 1), (24, 2)] {
+        let magic = *b"TSFM";
+        let header = Some(Header { magic, a, b });
+        let blocks = std::slice::from_ref(&block);
+        put(&folder, "root", second::root::write(header, blocks));
+        run(&folder, ["root", "find", "--path", "root", path]).expect(1, &absent(path, "-"), &[]);
+        let said = run(&folder, ["root", "find", "root", "5"]);
+        assert!(said.lines.starts_with("found\t5\t0707"), "{}", said.lines);
+    }
     let help = run(&folder, ["root", "find", "--help"]).lines;
     let words = "may have no name hashes: their files are found by number only";
     assert!(help.contains(words), "{help}");
@@ -406,6 +408,7 @@ fn resolve_gives_what_the_number_gives() {
     for (root, locale) in [
         ("root-v1", "enUS"),
         ("root-v1", "deDE"),
+        ("root-short", "enUS"),
         ("root-v2", "enUS"),
     ] {
         let files = || files.iter().filter(|file| file[1] == locale);

@@ -59,7 +59,7 @@ fn lines(locale: &str, group: Option<&str>) -> (Vec<String>, String) {
 }
 
 #[test]
-fn every_file_number_of_the_list_in_both_layouts() {
+fn every_file_number_of_the_list_in_every_layout() {
     let mut entries = fs::read_dir(sample().join("group")).expect("it is a folder");
     let group = entries
         .next()
@@ -69,7 +69,7 @@ fn every_file_number_of_the_list_in_both_layouts() {
         "group/{}",
         group.file_name().to_str().expect("its name is text")
     );
-    for root in ["root-v1", "root-v2"] {
+    for root in ["root-v1", "root-short", "root-v2"] {
         for locale in ["enUS", "deDE"] {
             for (index, group) in [("archives", None), (&group[..], Some(&group[..]))] {
                 let (numbers, lines) = lines(locale, group);

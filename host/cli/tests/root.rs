@@ -11,8 +11,9 @@ const GERMAN: &str = "4c0ca7f12a7dce44aa1036f709c2dd3f";
 
 #[test]
 fn check() {
-    let arguments = ["root", "check", "root-v1", "root-v2"];
-    expect(&sample(), &arguments, 0, "ok\troot-v1\nok\troot-v2\n", "");
+    let arguments = ["root", "check", "root-v1", "root-short", "root-v2"];
+    let lines = "ok\troot-v1\nok\troot-short\nok\troot-v2\n";
+    expect(&sample(), &arguments, 0, lines, "");
     for (name, words) in [
         (
             "root-v1.blte",
@@ -41,8 +42,8 @@ fn a_cut_file_is_refused_at_its_block() {
 }
 
 #[test]
-fn find_in_both_layouts() {
-    for (name, place) in [("root-v1", 220), ("root-v2", 249)] {
+fn find_in_every_layout() {
+    for (name, place) in [("root-v1", 220), ("root-short", 232), ("root-v2", 249)] {
         let found = format!("found\t417\t{ENGLISH}\t{place}\t-\nabsent\t5\t-\n");
         expect(
             &sample(),

@@ -90,7 +90,7 @@ impl Envelope {
 /// use dwarnizza::{Envelope, Key};
 ///
 /// let file = std::fs::read("../../sample/encoding.blte")?;
-/// let key = Key::from_text("5300c8e8411fe6ed987425a2914cb20f", 16)?;
+/// let key = Key::from_text("8cffb15a2230cd81b72b154219da4480", 16)?;
 /// let content = Envelope::check(&file, key)?.content();
 /// assert_eq!(content, std::fs::read("../../sample/encoding")?);
 /// # Ok::<(), Box<dyn std::error::Error>>(())

@@ -90,7 +90,7 @@ pub struct Record {
 /// ```
 /// use dwarnizza::{Root, name_hash};
 ///
-/// // One block of version 1, with the id 5.
+/// // One block, in a file without a magic, with the id 5.
 /// let mut file = [1, 0, 2, 5].map(u32::to_le_bytes).concat();
 /// file.extend([7; 16]);
 /// file.extend(name_hash(b"horn.ogg")?.to_le_bytes());
@@ -130,7 +130,7 @@ impl<'a> CheckedRoot<'a> {
     /// ```
     /// use dwarnizza::Root;
     ///
-    /// // A version 1 file of one block, without content flags and for the locale enUS: the id 5
+    /// // A file of one block, without a magic and content flags, for the locale enUS: the id 5
     /// // has a content key of sevens and a name hash of zeros.
     /// let mut file = [1, 0, 2, 5].map(u32::to_le_bytes).concat();
     /// file.extend([7; 16]);
@@ -197,7 +197,7 @@ impl<'a> CheckedRoot<'a> {
     /// ```
     /// use dwarnizza::{Reason, Root, name_hash};
     ///
-    /// // A version 1 file of one block, without content flags and for the locale enUS: the id 5
+    /// // A file of one block, without a magic and content flags, for the locale enUS: the id 5
     /// // has a content key of sevens.
     /// let mut file = [1, 0, 2, 5].map(u32::to_le_bytes).concat();
     /// file.extend([7; 16]);

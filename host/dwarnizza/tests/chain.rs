@@ -205,13 +205,13 @@ fn blocks_of(ids: impl IntoIterator<Item = u32>) -> Vec<BlockParts> {
     blocks.collect()
 }
 
-/// No header, a short one and a long one.
-fn headers() -> [Option<Header>; 3] {
+/// No header, a short one, and long ones of version 1 and 2.
+fn headers() -> [Option<Header>; 4] {
     let header = |a, b| {
         let magic = MAGICS[0];
         Some(Header { magic, a, b })
     };
-    [None, header(3, 1), header(24, 2)]
+    [None, header(3, 1), header(24, 1), header(24, 2)]
 }
 
 /// How many ids a whole build has.

@@ -10,7 +10,7 @@ use compare::{Tally, in_library_terms, refusal_at};
 use dwarnizza::root::PathRecord;
 use dwarnizza::{Reason, Refusal, Root};
 use forge::faults::root::{Fault, RootFile, random_masks};
-use forge::paths::{path, respelled};
+use forge::paths::{BIT_13, path, respelled};
 use forge::random::Random;
 use second::name_hash::name_hash;
 use second::root::{BlockParts, Found, Header, NO_NAME_HASHES, Record};
@@ -76,8 +76,7 @@ fn kind(file: &RootFile, path: &[u8], masks: (u32, u64)) -> &'static str {
     }
 }
 
-/// Files of version 1 and with long headers, by masks of every kind: what is found is what the parts
-/// say.
+/// Files of every layout, by masks of every kind: what is found is what the parts say.
 #[test]
 fn the_first_record_that_counts() {
     let mut random = Random::of_test();
@@ -122,9 +121,9 @@ fn stored(path: &[u8]) -> [u8; 8] {
     name_hash(path).unwrap().to_le_bytes()
 }
 
-/// None, and long ones of version 2 and 3 with either magic.
-fn headers() -> [Option<Header>; 4] {
-    let long = |magic: &[u8; 4], a, b| {
+/// None, short ones, and long ones of each version, with either magic.
+fn headers() -> [Option<Header>; 10] {
+    let header = |magic: &[u8; 4], a, b| {
         Some(Header {
             magic: *magic,
             a,
@@ -133,11 +132,24 @@ fn headers() -> [Option<Header>; 4] {
     };
     [
         None,
-        long(b"MFST", 20, 2),
-        long(b"TSFM", 24, 3),
-        long(b"TSFM", 99, 2),
+        header(b"MFST", 0, 0),
+        header(b"TSFM", 15, 1),
+        header(b"MFST", 20, 5),
+        header(b"TSFM", 100, 2),
+        header(b"MFST", 20, 1),
+        header(b"TSFM", 99, 1),
+        header(b"MFST", 20, 2),
+        LONG,
+        header(b"TSFM", 99, 2),
     ]
 }
+
+/// A long header of version 3.
+const LONG: Option<Header> = Some(Header {
+    magic: *b"TSFM",
+    a: 24,
+    b: 3,
+});
 
 /// Name hashes that are literal, low half first, and ids at both ends of the range.
 #[test]
@@ -174,13 +186,14 @@ fn ids_keys_and_places() {
 }
 
 /// Bit by bit: a block counts by each bit that its locale shares, and not by each unwanted bit of
-/// its content. Bits above 31 are in no content. Content bits 13 and 28 are left out.
+/// its content. Bits above 31 are in no content. With a magic the bit that drops the name hashes is
+/// left out.
 #[test]
 fn masks() {
     let hash = stored(b"a");
     for header in headers() {
-        for bit in (0..32).filter(|bit| ![13, 28].contains(bit)) {
-            let flag = 1 << bit;
+        let flags = (0..32).map(|bit| 1 << bit);
+        for flag in flags.filter(|&flag| header.is_none() || flag != NO_NAME_HASHES) {
             let blocks = vec![
                 block((flag, flag), 7, &[(5, hash)]),
                 block((u32::MAX, 0), 8, &[(6, hash)]),
@@ -203,7 +216,7 @@ fn masks() {
 }
 
 /// A block with the flag `NO_NAME_HASHES` is passed over, whatever its keys hold and whatever stands
-/// behind it. A file without a magic has no such flag.
+/// behind it. A file without a magic has no such flag, and bit 13 is none.
 #[test]
 fn blocks_without_name_hashes() {
     let hash = stored(b"a");
@@ -211,7 +224,7 @@ fn blocks_without_name_hashes() {
     for record in &mut bare.records {
         record.key = [hash, hash].concat().try_into().unwrap();
     }
-    let named = block((1, 0), 9, &[(6, hash)]);
+    let named = block((1, BIT_13), 9, &[(6, hash)]);
     for header in headers() {
         let id = |blocks: &[&BlockParts]| {
             let blocks = blocks.iter().map(|&block| block.clone());
@@ -245,7 +258,7 @@ fn name_hashes_that_are_near() {
 /// A path that is too long is refused before each refusal of the root, and with a good file too.
 #[test]
 fn a_long_path_is_refused_first() {
-    let good = RootFile::new(headers()[2], vec![block((1, 0), 7, &[(5, [7; 8])])]).bytes;
+    let good = RootFile::new(LONG, vec![block((1, 0), 7, &[(5, [7; 8])])]).bytes;
     let below = RootFile::new(None, vec![block((1, 0), 7, &[(-1, [7; 8])])]).bytes;
     let mut version_4 = good.clone();
     version_4[8] = 4;

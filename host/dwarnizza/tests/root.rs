@@ -7,8 +7,9 @@ use compare::{Tally, in_library_terms, refusal_at};
 use dwarnizza::root::Record;
 use dwarnizza::{Reason, Refusal, Root};
 use forge::faults::root::{Fault, RootFile, random_flags};
+use forge::paths::BIT_13;
 use forge::random::Random;
-use second::root::{BlockParts, Header, Layout, MAGICS, NO_NAME_HASHES, write};
+use second::root::{BlockParts, Header, MAGICS, NO_NAME_HASHES, write};
 
 /// All locales.
 const ALL: u32 = u32::MAX;
@@ -61,13 +62,15 @@ fn block(locale: u32, content: u32, first_key: u8, deltas: &[i32]) -> BlockParts
     }
 }
 
-/// Headers of every layout: none, short, long.
+/// Headers of every layout: none, short, long of each version.
 fn headers() -> Vec<Option<Header>> {
     let numbers = [
         (0, 0),
         (15, 2),
-        (100, 3),
-        (17, 1),
+        (100, 1),
+        (17, 5),
+        (20, 1),
+        (99, 1),
         (20, 2),
         (20, 3),
         (99, 3),
@@ -129,13 +132,11 @@ fn m5_to_m8() {
 fn m10_headers() {
     let mut tally = Tally::new("files");
     for magic in MAGICS {
-        for b in (0..=6).chain([0x0200, 0x0200_0000, u32::MAX]) {
+        for b in (0..=6).chain([0x0100, 0x0200, 0x0100_0000, u32::MAX]) {
             for a in (0..=120).chain([0x1000, 0x1400_0000, u32::MAX]) {
-                let header = Some(Header { magic, a, b });
-                let block = Layout::behind(header).block_header;
-                let mut file = write(header, &[]);
-                let long = file.len() != 12;
-                file.truncate(12);
+                let long = (16..100).contains(&a) && (1..=4).contains(&b);
+                let block = if long && b > 1 { 17 } else { 12 };
+                let mut file = start_of(magic, a, b);
                 // Blocks of no record.
                 file.resize(12 + 7 * 17, 0);
                 for length in 0..=file.len() {
@@ -161,6 +162,74 @@ fn m10_headers() {
         }
     }
     tally.print([40, 42, 43, 44]);
+}
+
+/// A magic and the numbers after it.
+fn start_of(magic: [u8; 4], a: u32, b: u32) -> Vec<u8> {
+    [magic, a.to_le_bytes(), b.to_le_bytes()].concat()
+}
+
+/// A block of one record for the locale 2, in the order of versions 2 and 3 or in that of version 1.
+fn one_record(in_version_2: bool, content: u32, id: u32, key: u8) -> Vec<u8> {
+    let mut block = match in_version_2 {
+        true => [1, 2, content].map(u32::to_le_bytes).concat(),
+        false => [1, content, 2].map(u32::to_le_bytes).concat(),
+    };
+    if in_version_2 {
+        block.extend([0xdd; 5]);
+    }
+    block.extend(id.to_le_bytes());
+    block.extend([key; 16]);
+    if content & 1 << 28 == 0 {
+        block.extend([0xee; 8]);
+    }
+    block
+}
+
+/// Two blocks as they stand behind headers about the bounds, with and without name hashes and with
+/// the content bit 13: what the second holds is found where it stands.
+#[test]
+fn blocks_byte_by_byte() {
+    for (magic, a, b) in headers_about_the_bounds() {
+        let long = (16..100).contains(&a) && (1..4).contains(&b);
+        let in_version_2 = long && b > 1;
+        let start = if long { a as usize } else { 12 };
+        for content in [0, BIT_13, NO_NAME_HASHES, BIT_13 | NO_NAME_HASHES] {
+            let mut file = start_of(magic, a, b);
+            file.resize(start, 0);
+            file.extend(one_record(in_version_2, content, 5, 7));
+            let second = file.len();
+            file.extend(one_record(in_version_2, content, 6, 8));
+            if long && a < 20 {
+                let refused = Err(refusal_at(Reason::RootHeaderSize, 0));
+                assert_eq!(compare_check(&file), refused);
+                continue;
+            }
+            let found = Record {
+                key: [8; 16],
+                place: second + if in_version_2 { 21 } else { 16 },
+            };
+            assert_eq!(compare_find(&file, 6, 2, 0), Ok(Some(found)));
+            assert_eq!(compare_find(&file, 6, !2, 0), Ok(None));
+            assert_eq!(compare_find(&file, 6, 2, 2), Ok(Some(found)));
+            let by_content = compare_find(&file, 6, 2, content.into()).unwrap();
+            assert_eq!(by_content, (content == 0).then_some(found));
+            let cut = Err(refusal_at(Reason::BlockCut, second));
+            assert_eq!(compare_check(&file[..file.len() - 1]), cut);
+            if long {
+                let cut = Err(refusal_at(Reason::RootHeaderCut, 0));
+                assert_eq!(compare_check(&file[..start - 1]), cut);
+            }
+        }
+    }
+}
+
+/// Both magics with numbers at both ends of what means a long header.
+fn headers_about_the_bounds() -> impl Iterator<Item = ([u8; 4], u32, u32)> {
+    let numbers = [15, 16, 19, 20, 99, 100]
+        .into_iter()
+        .flat_map(|a| [0, 1, 2, 3, 5].map(|b| (a, b)));
+    numbers.flat_map(|(a, b)| MAGICS.map(|magic| (magic, a, b)))
 }
 
 /// What the parts of a good file say: the first record of this id in a block that counts.
@@ -279,7 +348,7 @@ fn every_byte() {
     let mut tally = Tally::new("files");
     for header in headers() {
         let blocks = [
-            block(2, 1, 7, &[5, -1]),
+            block(2, 1 | BIT_13, 7, &[5, -1]),
             block(1, 0, 9, &[]),
             block(3, NO_NAME_HASHES, 10, &[4]),
         ];

@@ -17,6 +17,9 @@ const NAMES: [&[u8]; 8] = [
     b"",
 ];
 
+/// The content flag that 004 lists in place of `NO_NAME_HASHES`. It means nothing.
+pub const BIT_13: u32 = 1 << 13;
+
 /// Lengths of paths about the greatest.
 const LONG: [usize; 3] = [1023, 1024, 1025];
 

@@ -90,7 +90,7 @@ def block(
     locale: int = 2,
     name_hashes: Optional[Sequence[int]] = None,
 ) -> bytes:
-    """A block of a root file of version 1; the name hashes are zeros where none are given."""
+    """A block of a root file without a magic; the name hashes are zeros where none are given."""
     before = [-1, *ids]
     deltas = [number - last - 1 for last, number in zip(before, ids)]
     front = struct.pack("<3I", len(ids), content, locale)

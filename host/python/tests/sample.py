@@ -7,6 +7,8 @@ from typing import Dict, List
 REPOSITORY = Path(__file__).resolve().parents[3]
 SAMPLE = REPOSITORY / "sample"
 LOCALES = {"enUS": 0x2, "deDE": 0x20}
+# The root files: without a magic, with a short header, with a long one.
+ROOTS = ("root-v1", "root-short", "root-v2")
 
 
 def read(name: str) -> bytes:

@@ -165,8 +165,8 @@ def roots() -> List[Case]:
     return [
         (40, len(BLOCK), lambda: Root.check(BLOCK + BLOCK[:-1])),
         (41, len(BLOCK), lambda: Root.check(BLOCK + below)),
-        (42, 0, lambda: Root.check(b"TSFM" + struct.pack("<3I", 16, 2, 0))),
-        (43, 0, lambda: Root.check(b"TSFM")),
+        (42, 0, lambda: Root.check(b"TSFM" + struct.pack("<3I", 19, 1, 0))),
+        (43, 0, lambda: Root.check(b"TSFM" + struct.pack("<3I", 20, 1, 0))),
         (44, 0, lambda: Root.check(b"TSFM" + struct.pack("<3I", 24, 4, 0))),
         (110, 0, lambda: name_hash(bytes(1025))),
         (110, 0, lambda: Root.check(BLOCK).find_path("a" * 1025)),

@@ -14,7 +14,7 @@ def index_of(archive: str) -> CheckedIndex:
 
 class Sample(unittest.TestCase):
     def setUp(self) -> None:
-        self.roots = [Root.check(sample.read(name)) for name in ("root-v1", "root-v2")]
+        self.roots = [Root.check(sample.read(name)) for name in sample.ROOTS]
         self.encoding = Encoding.check(sample.read("encoding"))
         self.indexes = {name: index_of(name) for name in sample.archive_names()}
         (self.group_path,) = (sample.SAMPLE / "group").iterdir()
@@ -93,7 +93,7 @@ class Sample(unittest.TestCase):
             self.assertEqual(digest, file["content key"])
 
     def test_the_files_of_the_build_are_in_envelopes(self) -> None:
-        for name in ("root-v1", "root-v2", "encoding"):
+        for name in (*sample.ROOTS, "encoding"):
             data = sample.read(name + ".blte")
             envelope = Envelope.check(data, Envelope.key_of(data))
             self.assertEqual(len(envelope), len(sample.read(name)))

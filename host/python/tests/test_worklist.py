@@ -119,7 +119,7 @@ class ManyNumbers(unittest.TestCase):
         numbers = {int(file["number"]) for file in sample.files()}
         beside = {min(number + 1, 2**32 - 1) for number in numbers}
         sought = sorted([0, *numbers, *numbers, *beside])
-        for name, locale in itertools.product(("root-v1", "root-v2"), (0x2, 0x20, 0xFFFFFFFF)):
+        for name, locale in itertools.product(sample.ROOTS, (0x2, 0x20, 0xFFFFFFFF)):
             root = Root.check(sample.read(name))
             found = [root.find(number, locale) for number in sought]
             keys = [record.key if record else None for record in found]
@@ -129,7 +129,7 @@ class ManyNumbers(unittest.TestCase):
         self.assertEqual(root.find_many(iter([417])), [root.find(417).key])
 
     def test_unwanted_content_is_left_out(self) -> None:
-        # A version 1 file: the id 5 with content flag 8 for the locale 2.
+        # A file without a magic: the id 5 with content flag 8 for the locale 2.
         root = Root.check(struct.pack("<4I", 1, 8, 2, 5) + b"\x07" * 24)
         for locale, unwanted, key in [(2, 0, b"\x07" * 16), (4, 0, None), (2, 8, None)]:
             self.assertEqual(root.find_many([4, 5], locale, unwanted), [None, key])

@@ -54,16 +54,27 @@ fn loose(contents: &[Content]) -> impl Iterator<Item = File> {
 }
 
 /// Root files and encoding file, each also in its envelope.
-fn manifests(contents: &[Content]) -> [File; 6] {
-    let [v1, v2] = [manifest::root_v1(contents), manifest::root_v2(contents)];
+fn manifests(contents: &[Content]) -> [File; 8] {
+    let v1 = manifest::root_v1(contents);
+    let short = manifest::root_short(contents);
+    let v2 = manifest::root_v2(contents);
     let v1_envelope = content::single(&v1);
+    let short_envelope = content::single(&short);
     let v2_envelope = content::chunked(&v2, 1024);
-    let roots = [(&v1[..], &v1_envelope[..]), (&v2, &v2_envelope)];
-    let encoding = manifest::encoding(contents, &roots);
+    let encoding = manifest::encoding(
+        contents,
+        &[
+            (&v1, &v1_envelope),
+            (&short, &short_envelope),
+            (&v2, &v2_envelope),
+        ],
+    );
     let encoding_envelope = content::chunked(&encoding, 4096);
     [
         ("root-v1", v1),
         ("root-v1.blte", v1_envelope),
+        ("root-short", short),
+        ("root-short.blte", short_envelope),
         ("root-v2", v2),
         ("root-v2.blte", v2_envelope),
         ("encoding", encoding),

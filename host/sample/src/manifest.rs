@@ -20,6 +20,20 @@ pub fn root_v1(contents: &[Content]) -> Vec<u8> {
     second::root::write(None, &blocks(contents))
 }
 
+/// The root file with a magic and a short header, which counts all files and those with a name
+/// hash.
+pub fn root_short(contents: &[Content]) -> Vec<u8> {
+    let named = contents
+        .iter()
+        .filter(|content| content.locale == Locale::EnUs);
+    let header = Header {
+        magic: *b"MFST",
+        a: contents.len() as u32,
+        b: named.count() as u32,
+    };
+    second::root::write(Some(header), &blocks(contents))
+}
+
 /// The root file with a magic and a long header, of version 2.
 pub fn root_v2(contents: &[Content]) -> Vec<u8> {
     let header = Header {
@@ -30,7 +44,8 @@ pub fn root_v2(contents: &[Content]) -> Vec<u8> {
     second::root::write(Some(header), &blocks(contents))
 }
 
-/// Three blocks: English, English with the highest numbers, German.
+/// Three blocks: English, English with the highest numbers, German. With a magic the last has no
+/// name hashes.
 fn blocks(contents: &[Content]) -> Vec<BlockParts> {
     let is_high = |content: &Content| content.number >= i32::MAX as u32;
     let block = |locale: Locale, high: bool, flags: u32| {

@@ -7,6 +7,9 @@ use std::path::{Path, PathBuf};
 /// What is written by hand.
 const BY_HAND: &str = "README.md";
 
+/// The root files: without a magic, with a short header, with a long one.
+const ROOTS: [&str; 3] = ["root-v1", "root-short", "root-v2"];
+
 /// What the names of damaged files begin with.
 const DAMAGED: &str = "damaged/";
 
@@ -72,13 +75,14 @@ fn every_other_file_passes_the_checks_of_the_second_program() {
         }
     }
     let read = |name: &str| fs::read(folder().join(name)).expect("it is there");
-    assert_eq!(second::root::check(&read("root-v1")), Ok(()));
-    assert_eq!(second::root::check(&read("root-v2")), Ok(()));
+    for root in ROOTS {
+        assert_eq!(second::root::check(&read(root)), Ok(()));
+    }
     assert_eq!(second::encoding::check(&read("encoding")), Ok(()));
 }
 
-/// A file is found by its path where its number is, but for the German ones in the root file of
-/// version 2: their block has no name hashes.
+/// A file is found by its path where its number is, but for the German ones in root files with a
+/// magic: their block has no name hashes.
 #[test]
 fn every_file_is_found_by_its_path() {
     let read = |name: &str| fs::read(folder().join(name)).expect("it is there");
@@ -87,7 +91,7 @@ fn every_file_is_found_by_its_path() {
         let fields: Vec<_> = line.split('\t').collect();
         let (number, path) = (fields[0].parse().expect("it is a number"), fields[7]);
         let locale = if fields[1] == "deDE" { 0x20 } else { 0x2 };
-        for root in ["root-v1", "root-v2"] {
+        for root in ROOTS {
             let file = read(root);
             let by_number = second::root::find(&file, number, locale, 0).expect("it is checked");
             let by_number = by_number.map(|found| (number, found));

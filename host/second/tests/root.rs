@@ -3,7 +3,7 @@
 use second::name_hash::name_hash;
 use second::refusal::{self, Refusal};
 use second::root::{
-    BlockParts, Found, Header, Layout, MAGICS, NO_NAME_HASHES, Record, check, find, find_many,
+    BlockParts, Found, Header, MAGICS, NO_NAME_HASHES, Record, check, find, find_many,
     find_many_into, find_path, write,
 };
 
@@ -67,12 +67,17 @@ fn m5_to_m8() {
 #[test]
 fn m10_headers() {
     let blocks = [block(1, 0, 7, &[5])];
-    for b in [2, 3] {
-        for (a, start) in [(15, 12), (100, 12), (20, 20), (99, 99)] {
+    for (b, block_header) in [(1, 12), (2, 17), (3, 17)] {
+        for (a, place) in [
+            (15, 12 + 12),
+            (100, 12 + 12),
+            (20, 20 + block_header),
+            (99, 99 + block_header),
+        ] {
             let file = write(header(a, b), &blocks);
             let key = Found {
                 key: [7; 16],
-                place: start + Layout::behind(header(a, b)).block_header + 4,
+                place: place + 4,
             };
             assert_eq!(find(&file, 5, 1, 0), Ok(Some(key)));
         }
@@ -82,7 +87,8 @@ fn m10_headers() {
         }
     }
     for (a, b) in [
-        (16, 1),
+        (16, 0),
+        (16, 5),
         (99, 5),
         (20, 0),
         (17, u32::MAX),
@@ -91,7 +97,7 @@ fn m10_headers() {
         (0, 0),
     ] {
         let file = write(header(a, b), &blocks);
-        let key = 12 + Layout::behind(header(a, b)).block_header + 4;
+        let key = 12 + 12 + 4;
         assert_eq!(find(&file, 5, 1, 0).unwrap().unwrap().place, key);
     }
     for a in [16, 19, 20, 99] {
@@ -105,19 +111,22 @@ fn m10_headers() {
 fn headers_that_are_cut() {
     for magic in MAGICS {
         let short = write(Some(Header { magic, a: 1, b: 1 }), &[]);
-        let long = write(Some(Header { magic, a: 24, b: 2 }), &[]);
-        assert_eq!((short.len(), long.len()), (12, 24));
+        assert_eq!(short.len(), 12);
         assert_eq!(check(&short), Ok(()));
-        assert_eq!(check(&long), Ok(()));
         for length in 4..12 {
             assert_eq!(check(&short[..length]), Err(refusal::ROOT_HEADER_CUT));
         }
-        for length in 4..24 {
-            assert_eq!(check(&long[..length]), Err(refusal::ROOT_HEADER_CUT));
+        for b in 1..4 {
+            let long = write(Some(Header { magic, a: 24, b }), &[]);
+            assert_eq!(long.len(), 24);
+            assert_eq!(check(&long), Ok(()));
+            for length in 4..24 {
+                assert_eq!(check(&long[..length]), Err(refusal::ROOT_HEADER_CUT));
+            }
+            // 42 goes before a header that is cut.
+            let small = write(Some(Header { magic, a: 19, b }), &[]);
+            assert_eq!(check(&small[..12]), Err(refusal::ROOT_HEADER_SIZE));
         }
-        // 42 goes before a header that is cut.
-        let small = write(Some(Header { magic, a: 19, b: 3 }), &[]);
-        assert_eq!(check(&small[..12]), Err(refusal::ROOT_HEADER_SIZE));
         // A part of the magic is none.
         for length in 1..4 {
             assert_eq!(check(&magic[..length]), Err(refusal::block_cut(0)));
@@ -136,39 +145,64 @@ fn layouts() {
     };
     let hashed = [&[0xee; 8][..]; 2];
     let deltas = b"\x05\0\0\0\xfd\xff\xff\xff";
-    let version_1 = [
-        &b"\x02\0\0\0\x04\x03\0\0\x02\x01\0\0"[..],
-        deltas,
-        &keys(hashed),
-    ]
-    .concat();
-    assert_eq!(write(None, &one), version_1);
-    let others = [
-        &b"MFST\x01\0\0\0\x02\0\0\0\x02\0\0\0\x02\x01\0\0\x04\x03\0\0\xdd\xdd\xdd\xdd\xdd"[..],
-        deltas,
-        &keys([&[], &[0xee; 16]]),
-    ]
-    .concat();
-    assert_eq!(write(header(1, 2), &one), others);
-    let place = |file: &[u8], id| find(file, id, ALL, 0).unwrap().map(|found| found.place);
-    assert_eq!(
-        (place(&version_1, 5), place(&version_1, 3)),
-        (Some(20), Some(44))
-    );
-    assert_eq!((place(&others, 5), place(&others, 3)), (Some(37), Some(53)));
+    let apart: [&[u8]; 2] = [&[], &[0xee; 16]];
+    let short_flags = &b"\x02\0\0\0\x04\x03\0\0\x02\x01\0\0"[..];
+    let long_flags = b"\x02\0\0\0\x02\x01\0\0\x04\x03\0\0\xdd\xdd\xdd\xdd\xdd";
+    let long_start = |b| [&b"MFST\x14\0\0\0"[..], &[b], &[0; 11]].concat();
+    for (header, start, flags, hashes, places) in [
+        (None, vec![], short_flags, hashed, [20, 44]),
+        (
+            header(1, 2),
+            b"MFST\x01\0\0\0\x02\0\0\0".to_vec(),
+            short_flags,
+            apart,
+            [32, 48],
+        ),
+        (header(20, 1), long_start(1), short_flags, apart, [40, 56]),
+        (header(20, 2), long_start(2), long_flags, apart, [45, 61]),
+    ] {
+        let file = [&start, flags, deltas, &keys(hashes)].concat();
+        assert_eq!(write(header, &one), file);
+        let found = [5, 3].map(|id| find(&file, id, ALL, 0).unwrap().unwrap());
+        assert_eq!(found.map(|found| found.place), places);
+    }
+}
 
-    // Content bit 13 drops the name hashes, except in version 1.
-    assert_eq!(NO_NAME_HASHES, 1 << 13);
-    let bare = [block(1, NO_NAME_HASHES, 7, &[5]), block(1, 0, 9, &[6])];
-    assert_eq!(place(&write(None, &bare), 6), Some(40 + 16));
-    let file = write(header(1, 1), &bare);
-    assert_eq!(file.len(), 12 + 37 + 45);
-    assert_eq!(place(&file, 6), Some(12 + 37 + 21));
+/// Content bit 28 drops the name hashes, except in files without a magic; bit 13 does not.
+#[test]
+fn content_bits_13_and_28() {
+    assert_eq!(NO_NAME_HASHES, 1 << 28);
+    for (header, named, unnamed) in [
+        (None, 40, 40),
+        (header(1, 1), 40, 32),
+        (header(20, 1), 40, 32),
+        (header(20, 2), 45, 37),
+        (header(20, 3), 45, 37),
+    ] {
+        for (content, size) in [
+            (0, named),
+            (1 << 13, named),
+            (1 << 28, unnamed),
+            (!0, unnamed),
+            (!(1 << 28), named),
+        ] {
+            let file = write(header, &[block(1, content, 7, &[5]), block(1, 0, 9, &[6])]);
+            let start = file.len() - named - size;
+            assert_eq!(start, write(header, &[]).len());
+            let found = find(&file, 6, 1, 0).unwrap().unwrap();
+            assert_eq!(found.place, start + size + named - 24);
+        }
+    }
 }
 
 #[test]
 fn blocks_that_are_cut() {
-    for (header, start) in [(None, 0), (header(1, 1), 12), (header(30, 3), 30)] {
+    for (header, start) in [
+        (None, 0),
+        (header(1, 1), 12),
+        (header(30, 1), 30),
+        (header(30, 3), 30),
+    ] {
         let first = write(header, &[block(1, 0, 7, &[5, 0])]);
         let two = write(header, &[block(1, 0, 7, &[5, 0]), block(1, 0, 8, &[])]);
         for length in start + 1..two.len() {
@@ -218,7 +252,7 @@ fn masks_and_the_first_match() {
         block(2 | 4, 2, 6, &[5]),
         block(4, 0, 7, &[5, 0]),
     ];
-    for header in [None, header(1, 1), header(20, 2)] {
+    for header in [None, header(1, 1), header(20, 1), header(20, 2)] {
         let file = write(header, &blocks);
         let key = |id, locale, unwanted| {
             let found = find(&file, id, locale, unwanted).unwrap();
@@ -311,7 +345,13 @@ fn paths() {
         named(block(2, 1, 20, &[9, 0]), &["b", "a/y"]),
         named(block(3, 2, 30, &[0, 0]), &["b", ""]),
     ];
-    for header in [None, header(1, 1), header(20, 2), header(99, 3)] {
+    for header in [
+        None,
+        header(1, 1),
+        header(20, 1),
+        header(20, 2),
+        header(99, 3),
+    ] {
         let file = write(header, &blocks);
         let found = |path: &str, locale, unwanted| {
             let found = find_path(&file, path.as_bytes(), locale, unwanted).unwrap();
@@ -343,17 +383,14 @@ fn blocks_without_name_hashes() {
         record.key = [hash, hash].concat().try_into().unwrap();
     }
     let blocks = [bare, named(block(1, 0, 9, &[6]), &["a"])];
-    let file = write(header(1, 1), &blocks);
-    let found = |unwanted| find_path(&file, b"a", 1, unwanted).unwrap();
-    assert_eq!(
-        found(0).map(|(id, found)| (id, found.key)),
-        Some((6, [9; 16]))
-    );
-    assert_eq!(
-        find_path(&write(header(1, 1), &blocks[..1]), b"a", 1, 0),
-        Ok(None)
-    );
-    // In version 1 the flag means nothing.
+    for header in [header(1, 1), header(20, 1), header(20, 2)] {
+        let file = write(header, &blocks);
+        let (id, found) = find_path(&file, b"a", 1, 0).unwrap().unwrap();
+        assert_eq!((id, found.key), (6, [9; 16]));
+        let file = write(header, &blocks[..1]);
+        assert_eq!(find_path(&file, b"a", 1, 0), Ok(None));
+    }
+    // Without a magic the flag means nothing.
     let named = [named(block(1, NO_NAME_HASHES, 7, &[5]), &["a"])];
     let (id, _) = find_path(&write(None, &named), b"a", 1, 0)
         .unwrap()

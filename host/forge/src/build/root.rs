@@ -3,7 +3,7 @@
 use second::root::{BlockParts, Header, Layout, MAGICS, NO_NAME_HASHES, Record, write};
 
 use crate::damage::Place;
-use crate::paths::put_names;
+use crate::paths::{BIT_13, put_names};
 use crate::random::Random;
 
 /// A root file and the ids in it.
@@ -71,11 +71,11 @@ impl Root {
 /// None, a long one or a short one, with numbers about the bounds between these.
 fn header(random: &mut Random) -> Option<Header> {
     let magic = random.pick(&MAGICS);
-    let (a, b) = match random.within(0..=7) {
+    let (a, b) = match random.within(0..=8) {
         0..=2 => return None,
-        3 | 4 => (random.within(20..=99) as u32, random.pick(&[2, 3])),
-        5 => (random.within(15..=21) as u32, random.pick(&[1, 2, 4, 5])),
-        6 => (random.within(98..=101) as u32, random.pick(&[2, 3, 4])),
+        3 | 4 => (random.within(20..=99) as u32, random.pick(&[1, 2, 3])),
+        5 => (random.within(15..=21) as u32, random.pick(&[0, 1, 2, 4, 5])),
+        6 => (random.within(98..=101) as u32, random.pick(&[1, 2, 3, 4])),
         _ => (random.number(32) as u32, random.number(32) as u32),
     };
     Some(Header { magic, a, b })
@@ -110,12 +110,13 @@ fn delta(random: &mut Random) -> i32 {
     }
 }
 
-/// Few bits, that of name hashes often.
+/// Few bits, that of name hashes and bit 13 often.
 pub fn flags(random: &mut Random) -> u32 {
-    match random.within(0..=4) {
+    match random.within(0..=5) {
         0 => 0,
         1 => u32::MAX,
         2 => NO_NAME_HASHES | 2,
+        3 => BIT_13 | 2,
         _ => 1 << random.within(0..=31) | 2,
     }
 }

@@ -3,12 +3,8 @@
 use second::refusal::{self, Refusal};
 use second::root::{BlockParts, Header, Layout, MAGICS, NO_NAME_HASHES, Record, write};
 
-use crate::paths::put_names;
+use crate::paths::{BIT_13, put_names};
 use crate::random::Random;
-
-/// The content flags that drop the name hashes by one source or another: bit 13 by 004, bit 28 by
-/// 000. A block without either has them by all.
-const NO_NAME_HASHES_BY_ANY: u32 = NO_NAME_HASHES | 1 << 28;
 
 /// The first id of the upper half of the range.
 const MIDDLE: i64 = 1 << 31;
@@ -55,13 +51,13 @@ impl RootFile {
         Self::new(header, blocks.collect())
     }
 
-    /// A good file of version 1 or with a long header, whose blocks all have name hashes, mostly
-    /// those of these paths.
+    /// A good file of any layout, whose blocks all have name hashes, mostly those of these paths.
     pub fn named(random: &mut Random, paths: &[Vec<u8>]) -> Self {
-        let header = [None, Some(long_header(random))][random.up_to(1)];
-        let mut blocks = Self::random(random).blocks;
+        let Self {
+            header, mut blocks, ..
+        } = Self::random(random);
         for block in &mut blocks {
-            block.content &= !NO_NAME_HASHES_BY_ANY;
+            block.content &= !NO_NAME_HASHES;
             put_names(random, block, paths);
         }
         Self::new(header, blocks)
@@ -163,25 +159,14 @@ impl RootFile {
     }
 }
 
-/// Either magic with a good long header.
-fn long_header(random: &mut Random) -> Header {
-    Header {
-        magic: random.pick(&MAGICS),
-        a: random.within(20..=99) as u32,
-        b: random.pick(&[2, 3]),
-    }
-}
-
 /// None, or either magic with a short header or a good long one.
 fn random_header(random: &mut Random) -> Option<Header> {
-    let (a, b) = match random.up_to(4) {
+    let (a, b) = match random.up_to(6) {
         0 | 1 => return None,
-        2 => (20 + random.up_to(79), 2 + random.up_to(1)),
-        3 => (random.up_to(15), random.up_to(5)),
-        _ => (
-            [16 + random.up_to(83), 100, 1 << 31][random.up_to(2)],
-            [0, 1, 5, 1 << 24][random.up_to(3)],
-        ),
+        2 | 3 => (20 + random.up_to(79), 1 + random.up_to(2)),
+        4 => (random.up_to(15), random.up_to(5)),
+        5 => ([100, 1 << 31][random.up_to(1)], random.up_to(5)),
+        _ => (16 + random.up_to(83), [0, 5, 1 << 24][random.up_to(2)]),
     };
     Some(Header {
         magic: MAGICS[random.up_to(1)],
@@ -229,7 +214,7 @@ fn random_delta(random: &mut Random, next: i64) -> i32 {
     delta.clamp(i32::MIN.into(), i32::MAX.into()) as i32
 }
 
-/// None, one, all or any flags; often that of name hashes.
+/// None, one, all or any flags; often that of name hashes or bit 13.
 pub fn random_flags(random: &mut Random) -> u32 {
     let flags = match random.up_to(4) {
         0 => 0,
@@ -239,6 +224,7 @@ pub fn random_flags(random: &mut Random) -> u32 {
     };
     match random.up_to(3) {
         0 => flags ^ NO_NAME_HASHES,
+        1 => flags ^ BIT_13,
         _ => flags,
     }
 }

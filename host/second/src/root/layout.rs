@@ -17,7 +17,7 @@ const LEAST_LONG_HEADER: u32 = 20;
 const REFUSED_VERSION: u32 = 4;
 
 /// The content flag that drops the name hashes in files with a magic.
-pub const NO_NAME_HASHES: u32 = 1 << 13;
+pub const NO_NAME_HASHES: u32 = 1 << 28;
 
 /// How the blocks of a file are laid out. All start with the count, and their deltas follow the
 /// header.
@@ -38,7 +38,7 @@ pub struct Layout {
 }
 
 /// Without a magic: count, content flags, locale flags; each key is followed by its name hash.
-const VERSION_1: Layout = Layout {
+const WITHOUT_MAGIC: Layout = Layout {
     block_header: 12,
     unknown: 0,
     content_at: 4,
@@ -47,9 +47,20 @@ const VERSION_1: Layout = Layout {
     no_name_hashes: 0,
 };
 
-/// With one: count, locale flags, content flags, 4 and 1 unknown bytes; the name hashes follow all
-/// keys.
-const OTHERS: Layout = Layout {
+/// Behind a short header, or a long one of version 1: count, content flags, locale flags; the name
+/// hashes follow all keys.
+const VERSION_1: Layout = Layout {
+    block_header: 12,
+    unknown: 0,
+    content_at: 4,
+    locale_at: 8,
+    key_step: KEY,
+    no_name_hashes: NO_NAME_HASHES,
+};
+
+/// Behind a long header of version 2 or 3: count, locale flags, content flags, 4 and 1 unknown
+/// bytes; the name hashes follow all keys.
+const VERSION_2: Layout = Layout {
     block_header: 17,
     unknown: 5,
     content_at: 8,
@@ -59,11 +70,12 @@ const OTHERS: Layout = Layout {
 };
 
 impl Layout {
-    /// The layout of the blocks behind a header; without one, of version 1.
+    /// The layout of the blocks behind a header, or of those in a file without one.
     pub fn behind(header: Option<Header>) -> Self {
         match header {
-            None => VERSION_1,
-            Some(_) => OTHERS,
+            None => WITHOUT_MAGIC,
+            Some(Header { a, b, .. }) if is_long(a, b) && b > 1 => VERSION_2,
+            Some(_) => VERSION_1,
         }
     }
 
@@ -102,5 +114,5 @@ impl Layout {
 
 /// Whether these numbers after the magic are the size and the version of a long header.
 pub fn is_long(a: u32, b: u32) -> bool {
-    matches!(a, 16..100) && matches!(b, 2..=4)
+    matches!(a, 16..100) && matches!(b, 1..=4)
 }

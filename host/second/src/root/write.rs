@@ -39,7 +39,7 @@ pub struct Record {
     pub name_hash: [u8; NAME_HASH],
 }
 
-/// The file of these blocks, in version 1 where there is no header.
+/// The file of these blocks, without a magic where there is no header.
 pub fn write(header: Option<Header>, blocks: &[BlockParts]) -> Vec<u8> {
     let layout = Layout::behind(header);
     let mut file = header.map_or(Vec::new(), Header::bytes);

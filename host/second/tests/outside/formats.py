@@ -85,17 +85,18 @@ def coded(page, ekey, specs):
 
 def root(data):
     magic = data[:4] in (b"MFST", b"TSFM")
-    at = 0
+    at, version = (12, 1) if magic else (0, 0)
     if magic:
         a, b = struct.unpack_from("<II", data, 4)
-        at = a if 16 <= a < 100 and b in (2, 3, 4) else 12
+        if 16 <= a < 100 and b in (1, 2, 3, 4):
+            at, version = a, b
     while at < len(data):
-        fields = struct.Struct("<IIIIB" if magic else "<III")
+        fields = struct.Struct("<IIIIB" if version > 1 else "<III")
         count, *flags = fields.unpack_from(data, at)
-        locale, content_flags = flags[:2] if magic else reversed(flags)
+        locale, content_flags = flags[:2] if version > 1 else reversed(flags)
         deltas = struct.unpack_from(f"<{count}i", data, at + fields.size)
         at += fields.size + 4 * count
-        named = not (magic and content_flags & 0x2000)
+        named = not (magic and content_flags & 0x10000000)
         step = 16 if magic else 24
         keys = [data[at + step * i :][:16] for i in range(count)]
         at += (24 if named else 16) * count

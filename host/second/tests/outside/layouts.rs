@@ -166,7 +166,7 @@ fn found_again(file: &[u8], line: &str) -> String {
 fn blocks() -> Vec<BlockParts> {
     let block = |number: u8, deltas: &[i32]| BlockParts {
         locale: 2 << number,
-        content: [0, 0x2000, 0x8000_0001][usize::from(number)],
+        content: [0x2000, 0x1000_0000, 0x8000_0001][usize::from(number)],
         unknown: [number; 5],
         records: deltas
             .iter()
@@ -186,17 +186,15 @@ fn blocks() -> Vec<BlockParts> {
 
 #[test]
 fn root_files() {
-    let long = Header {
-        magic: MAGICS[1],
-        a: 24,
-        b: 2,
-    };
-    let short = Header {
-        magic: MAGICS[0],
-        a: 10,
-        b: 2,
-    };
-    for header in [None, Some(short), Some(long)] {
+    let header = |magic, a, b| Some(Header { magic, a, b });
+    let [mfst, tsfm] = MAGICS;
+    for header in [
+        None,
+        header(mfst, 10, 2),
+        header(tsfm, 24, 5),
+        header(mfst, 20, 1),
+        header(tsfm, 24, 2),
+    ] {
         let file = root::write(header, &blocks());
         root::check(&file).unwrap();
         let Some(lines) = lines_by_python("root", &file) else {

@@ -332,7 +332,8 @@ fn ids_of_deltas() {
 }
 
 /// 004: the magics 0x4D465354 and 0x5453464D; V1 blocks of 12 bytes before the deltas and 28 for a
-/// record, all others of 17; "0x00002000: No name hash present".
+/// record, later ones of 17, which 000 and 004 give to short headers too (rule R24 does not). 000:
+/// "0x10000000: No name hash present", where 004 has 0x00002000.
 #[test]
 fn sizes_of_root_files() {
     assert_eq!(
@@ -340,34 +341,39 @@ fn sizes_of_root_files() {
         [0x4d46_5354_u32, 0x5453_464d].map(u32::to_be_bytes)
     );
     let [magic, _] = root::MAGICS;
-    let header = root::Header {
-        magic,
-        a: 1000,
-        b: 900,
-    };
+    let header = |a, b| Some(root::Header { magic, a, b });
     assert_eq!(root_file(None, &[1, 2]).len(), 12 + 2 * 28);
-    assert_eq!(root_file(Some(header), &[1, 2]).len(), 12 + 17 + 2 * 28);
-    let mut unnamed = root_file(Some(header), &[1, 2]);
-    unnamed[12 + 8..][..4].copy_from_slice(&0x0000_2000_u32.to_le_bytes());
-    unnamed.truncate(12 + 17 + 2 * 20);
-    assert_eq!(root::check(&unnamed), Ok(()));
+    for (header, start, block_header, content_at) in
+        [(header(1000, 900), 12, 12, 4), (header(24, 2), 24, 17, 8)]
+    {
+        let mut unnamed = root_file(header, &[1, 2]);
+        assert_eq!(unnamed.len(), start + block_header + 2 * 28);
+        unnamed[start + content_at..][..4].copy_from_slice(&0x1000_0000_u32.to_le_bytes());
+        unnamed.truncate(start + block_header + 2 * 20);
+        assert_eq!(root::check(&unnamed), Ok(()));
+    }
 }
 
 /// 004 prints a header of version 3 with "Size of header (20 bytes)" and "Version (1)", of six
-/// numbers, which are 24 bytes. By its own heuristic, versions 2 to 4, a file with version 1 has
-/// the short header (rule R5), so that what follows is read as a block; 000 would take every
-/// version below 10 for a long one. With version 2 the 20 bytes are the header.
+/// numbers, which are 24 bytes. The 20 bytes are the header (rule R4), though by the heuristic of
+/// 004, versions 2 to 4, it is a short one. 000 takes every version below 10 for a long header; here
+/// 0 and 5 to 9 mean a short one.
 #[test]
 fn the_header_of_version_3() {
     let [_, magic] = root::MAGICS;
     let header = |b| Some(root::Header { magic, a: 20, b });
-    let id = |file: &[u8]| root::find(file, 7, 2, 0).map(|found| found.is_some());
-    assert_eq!(id(&root_file(header(2), &[7])), Ok(true));
-    assert_eq!(root_file(header(2), &[7]).len(), 20 + 17 + 28);
-    assert_eq!(root_file(header(1), &[7]).len(), 12 + 17 + 28);
-    let mut printed = root_file(header(2), &[7]);
-    printed[8] = 1;
-    assert_eq!(id(&printed).unwrap_err().number, 40);
+    for (b, length) in [
+        (0, 12 + 12),
+        (1, 20 + 12),
+        (2, 20 + 17),
+        (3, 20 + 17),
+        (5, 12 + 12),
+    ] {
+        let file = root_file(header(b), &[7]);
+        assert_eq!(file.len(), length + 28);
+        let found = root::find(&file, 7, 2, 0).unwrap().unwrap();
+        assert_eq!(found.place, length + 4);
+    }
 }
 
 /// 004, Example Hashes: "Empty string: 0xDEADBEEFDEADBEEF", "Interface\Icons\INV_Misc_QuestionMark.blp:
