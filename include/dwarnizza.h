@@ -557,17 +557,24 @@ uint32_t dwarnizza_encoding_spec(const uint8_t *file, size_t file_len,
  * A root file, taken out of its envelope, gives content keys for file numbers
  * (FileDataIDs), and both for paths. It is a header and blocks; numbers are
  * little-endian. A header starts with "MFST" or "TSFM" and two numbers, a and b.
- * Where a is 16 to 99 and b is 2, 3 or 4, the header has a bytes, and b is the
- * version, of which 4 is refused; else it has 12. A file that starts otherwise
- * has no header and is of version 1.
+ * Where a is 16 to 99 and b is 1 to 4, the header is long: it has a bytes, and b
+ * is the version, of which 4 is refused. Else it is short and has 12. A file that
+ * starts otherwise has no header.
  *
- * A block of version 1 is the count of its records (4 bytes), content flags (4),
- * locale flags (4), a delta for each record (4), and for each record a content
- * key (16) and a name hash (8). All other blocks are the count, locale flags,
- * content flags, 5 unknown bytes, the deltas, all content keys, and all name
- * hashes unless content bit 13 is set. The first id of a block is its first
- * delta, and each next id is the one before, plus 1, plus the delta, a signed
- * number; ids are 0 to 4,294,967,295 and do not wrap.
+ * A block is the count of its records (4 bytes), its flags, a delta for each
+ * record (4), then content keys (16 each) and name hashes (8 each):
+ *
+ *     no header          content flags (4), locale flags (4); each key is
+ *                        followed by its name hash
+ *     a short header,    content flags (4), locale flags (4); all keys, then all
+ *     or version 1       name hashes
+ *     version 2 or 3     locale flags (4), content flags (4), 5 unknown bytes;
+ *                        all keys, then all name hashes
+ *
+ * With a header, a block whose content flags have bit 28 (0x10000000) has no name
+ * hashes. The first id of a block is its first delta, and each next id is the one
+ * before, plus 1, plus the delta, a signed number; ids are 0 to 4,294,967,295 and
+ * do not wrap.
  *
  * The full check refuses with the first that holds, in this order:
  *

@@ -13,7 +13,6 @@ use Rattle.index_open.specs.Open.{opening}
 use Rattle.index_writer.specs.Write.{writeOutcome}
 use Rattle.index_lookup.specs.Lookup as index
 use Rattle.root_layout.specs.declared.Layout.{Layout}
-use Rattle.root_layout.specs.Layout.{headerSize}
 use Rattle.root_layout.specs.Header.{layoutValues, openOutcome}
 use Rattle.root.specs.Lookup as root
 use Rattle.key_text.specs.Text.{textCheck, textBytes, carried}
@@ -115,10 +114,6 @@ m9 =
 abbrev pub laidOut : Layout → Outcome
 laidOut l = answered (layoutValues l)
 
--- Where the first key stands of a block of one record that stands first: after its header and its delta.
-abbrev pub firstKey : Layout → ℕ
-firstKey l = l .start + headerSize l + 4
-
 -- X10 (m10): short headers, a refused one and long ones: how the blocks are laid out, and where the lookup of
 -- id 5 finds the key of a block that stands right after that header.
 abbrev pub m10 : List Row
@@ -128,8 +123,8 @@ m10 =
     ∷ (openOutcome (rootWith 16 (long 16) (pos 5 ∷ [])) is refusal 42 0)
     ∷ (openOutcome (rootWith 20 (long 20) (pos 5 ∷ [])) is laidOut (long 20))
     ∷ (openOutcome (rootWith 99 (long 99) (pos 5 ∷ [])) is laidOut (long 99))
-    ∷ (rootLookup (rootWith 15 short (pos 5 ∷ [])) 5 is answered (firstKey short ∷ []))
-    ∷ (rootLookup (rootWith 100 short (pos 5 ∷ [])) 5 is answered (firstKey short ∷ []))
+    ∷ (rootLookup (rootWith 15 short (pos 5 ∷ [])) 5 is answered (28 ∷ []))
+    ∷ (rootLookup (rootWith 100 short (pos 5 ∷ [])) 5 is answered (28 ∷ []))
     ∷ (rootLookup (rootWith 16 (long 16) (pos 5 ∷ [])) 5 is refusal 42 0)
     ∷ (rootLookup (rootWith 20 (long 20) (pos 5 ∷ [])) 5 is answered (41 ∷ []))
     ∷ (rootLookup (rootWith 99 (long 99) (pos 5 ∷ [])) 5 is answered (120 ∷ []))

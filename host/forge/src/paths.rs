@@ -17,7 +17,7 @@ const NAMES: [&[u8]; 8] = [
     b"",
 ];
 
-/// The content flag that 004 lists in place of `NO_NAME_HASHES`. It means nothing.
+/// The content flag that 004 lists in place of `NO_NAME_HASHES`. It drops nothing.
 pub const BIT_13: u32 = 1 << 13;
 
 /// Lengths of paths about the greatest.
