@@ -7,11 +7,11 @@ use lib.IntN.{pos}
 use lib.ListN.{replicate}
 use Rattle.refusal.specs.Outcome.{refusal}
 use Rattle.root_layout.specs.declared.Layout.{Layout}
-use Rattle.root_layout.specs.Layout.{headerSize}
+use Rattle.root_layout.specs.Layout.{headerSize, layoutFor}
 use Rattle.root_layout.specs.Header.{openOutcome, layoutValues}
 use Rattle.root_block.specs.declared.Block.{Block}
 use Rattle.root_block.specs.Block.{blockOf, blockSize, keyAt, hashAt}
-use Rattle.examples.specs.Inputs.{block, noMagic, short, long, long1, headerOf}
+use Rattle.examples.specs.Inputs.{block, noMagic, short, long, headerOf}
 use Rattle.examples.specs.Examples.{Row, _is_, laidOut, EachHolds}
 
 -- A block of three records with these content flags: none, bit 13, bit 28.
@@ -40,7 +40,7 @@ abbrev pub layoutRows : List Row
 layoutRows =
     (layoutValues noMagic is (0 ∷ 0 ∷ 0 ∷ 0 ∷ 1 ∷ 0 ∷ []))
     ∷ (layoutValues short is (12 ∷ 0 ∷ 0 ∷ 0 ∷ 0 ∷ 268435456 ∷ []))
-    ∷ (layoutValues (long1 20) is (20 ∷ 0 ∷ 0 ∷ 0 ∷ 0 ∷ 268435456 ∷ []))
+    ∷ (layoutValues (layoutFor 20 1) is (20 ∷ 0 ∷ 0 ∷ 0 ∷ 0 ∷ 268435456 ∷ []))
     ∷ (layoutValues (long 20) is (20 ∷ 1 ∷ 0 ∷ 5 ∷ 0 ∷ 268435456 ∷ []))
     ∷ []
 
@@ -50,8 +50,8 @@ headerRows =
     (openOutcome (headerOf 100 15 1) is laidOut short)
     ∷ (openOutcome (headerOf 100 16 1) is refusal 42 0)
     ∷ (openOutcome (headerOf 100 19 1) is refusal 42 0)
-    ∷ (openOutcome (headerOf 100 20 1) is laidOut (long1 20))
-    ∷ (openOutcome (headerOf 100 99 1) is laidOut (long1 99))
+    ∷ (openOutcome (headerOf 100 20 1) is laidOut (layoutFor 20 1))
+    ∷ (openOutcome (headerOf 100 99 1) is laidOut (layoutFor 99 1))
     ∷ (openOutcome (headerOf 98 99 1) is refusal 43 0)
     ∷ (openOutcome (headerOf 100 100 1) is laidOut short)
     ∷ (openOutcome (headerOf 100 20 0) is laidOut short)

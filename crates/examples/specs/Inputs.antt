@@ -77,7 +77,7 @@ block l deltas =
     ++ deltaBytes deltas
     ++ keys l (eqb (l .«no_hashes») 0) (length deltas)
 
--- The layouts of files without magic, with a short header, and with a long one of a bytes and b = 2 or b = 1.
+-- The layouts of files without magic, with a short header, and with a long one of a bytes and b = 2.
 abbrev pub noMagic : Layout
 noMagic = layoutFor 0 noMagicVersion
 
@@ -86,9 +86,6 @@ short = layoutFor 12 shortVersion
 
 abbrev pub long : ℕ → Layout
 long a = layoutFor a 2
-
-abbrev pub long1 : ℕ → Layout
-long1 a = layoutFor a 1
 
 -- A file of n bytes that begins with a magic and the numbers a and b.
 abbrev pub headerOf : (n a b : ℕ) → List ℕ

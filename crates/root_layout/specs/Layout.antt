@@ -35,7 +35,7 @@ contentAt l = cond (l .«locale_first») (countSize + localeSize) countSize
 unfoldable pub headerSize : Layout → ℕ
 headerSize l = countSize + localeSize + contentSize l + l .unknown
 
--- Content bit 28: a block that has it has no name hashes, but in a file without a magic (rules R8, R24).
+-- Content bit 28: with a magic, a block that has it has no name hashes (rules R8, R24).
 abbrev pub noNameHashes : ℕ
 noNameHashes = 268435456
 
