@@ -9,7 +9,7 @@ use std::collections::BTreeMap;
 use compare::{Tally, in_library_terms, refusal_at};
 use dwarnizza::root::PathRecord;
 use dwarnizza::{Reason, Refusal, Root};
-use forge::faults::root::{Fault, RootFile, random_masks};
+use forge::faults::root::{Fault, RootFile, headers_about_the_bounds, random_masks};
 use forge::paths::{BIT_13, path, respelled};
 use forge::random::Random;
 use second::name_hash::name_hash;
@@ -121,27 +121,11 @@ fn stored(path: &[u8]) -> [u8; 8] {
     name_hash(path).unwrap().to_le_bytes()
 }
 
-/// None, short ones, and long ones of each version, with either magic.
-fn headers() -> [Option<Header>; 10] {
-    let header = |magic: &[u8; 4], a, b| {
-        Some(Header {
-            magic: *magic,
-            a,
-            b,
-        })
-    };
-    [
-        None,
-        header(b"MFST", 0, 0),
-        header(b"TSFM", 15, 1),
-        header(b"MFST", 20, 5),
-        header(b"TSFM", 100, 2),
-        header(b"MFST", 20, 1),
-        header(b"TSFM", 99, 1),
-        header(b"MFST", 20, 2),
-        LONG,
-        header(b"TSFM", 99, 2),
-    ]
+/// None, a long one, and good ones with numbers at both ends of what means a long header.
+fn headers() -> impl Iterator<Item = Option<Header>> {
+    let about = headers_about_the_bounds();
+    let good = about.filter(|header| !matches!((header.a, header.b), (16..20, 1..4)));
+    [None, LONG].into_iter().chain(good.map(Some))
 }
 
 /// A long header of version 3.

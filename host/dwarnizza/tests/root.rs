@@ -4,9 +4,9 @@ mod compare;
 mod raw;
 
 use compare::{Tally, in_library_terms, refusal_at};
-use dwarnizza::root::Record;
+use dwarnizza::root::{PathRecord, Record};
 use dwarnizza::{Reason, Refusal, Root};
-use forge::faults::root::{Fault, RootFile, random_flags};
+use forge::faults::root::{Fault, RootFile, headers_about_the_bounds, random_flags};
 use forge::paths::BIT_13;
 use forge::random::Random;
 use second::root::{BlockParts, Header, MAGICS, NO_NAME_HASHES, write};
@@ -169,19 +169,24 @@ fn start_of(magic: [u8; 4], a: u32, b: u32) -> Vec<u8> {
     [magic, a.to_le_bytes(), b.to_le_bytes()].concat()
 }
 
-/// A block of one record for the locale 2, in the order of versions 2 and 3 or in that of version 1.
-fn one_record(in_version_2: bool, content: u32, id: u32, key: u8) -> Vec<u8> {
+/// A path, and its name hash as it is stored.
+const PATH: &[u8] = br"Interface\Icons\INV_Misc_QuestionMark.blp";
+const NAME_HASH: [u8; 8] = 0x9eb5_9e3c_7612_4837_u64.to_le_bytes();
+
+/// A block of two records for the locale 2, in the order of versions 2 and 3 or in that of version
+/// 1. Their ids and keys count up from this number, and the second has this name hash.
+fn two_records(in_version_2: bool, content: u32, first: u8, name_hash: [u8; 8]) -> Vec<u8> {
     let mut block = match in_version_2 {
-        true => [1, 2, content].map(u32::to_le_bytes).concat(),
-        false => [1, content, 2].map(u32::to_le_bytes).concat(),
+        true => [2, 2, content].map(u32::to_le_bytes).concat(),
+        false => [2, content, 2].map(u32::to_le_bytes).concat(),
     };
     if in_version_2 {
         block.extend([0xdd; 5]);
     }
-    block.extend(id.to_le_bytes());
-    block.extend([key; 16]);
+    block.extend([first.into(), 0].map(u32::to_le_bytes).concat());
+    block.extend([[first; 16], [first + 1; 16]].concat());
     if content & 1 << 28 == 0 {
-        block.extend([0xee; 8]);
+        block.extend([[0xee; 8], name_hash].concat());
     }
     block
 }
@@ -190,30 +195,23 @@ fn one_record(in_version_2: bool, content: u32, id: u32, key: u8) -> Vec<u8> {
 /// the content bit 13: what the second holds is found where it stands.
 #[test]
 fn blocks_byte_by_byte() {
-    for (magic, a, b) in headers_about_the_bounds() {
+    for Header { magic, a, b } in headers_about_the_bounds() {
         let long = (16..100).contains(&a) && (1..4).contains(&b);
         let in_version_2 = long && b > 1;
         let start = if long { a as usize } else { 12 };
         for content in [0, BIT_13, NO_NAME_HASHES, BIT_13 | NO_NAME_HASHES] {
             let mut file = start_of(magic, a, b);
             file.resize(start, 0);
-            file.extend(one_record(in_version_2, content, 5, 7));
+            file.extend(two_records(in_version_2, content, 5, [0xee; 8]));
             let second = file.len();
-            file.extend(one_record(in_version_2, content, 6, 8));
+            file.extend(two_records(in_version_2, content, 7, NAME_HASH));
             if long && a < 20 {
                 let refused = Err(refusal_at(Reason::RootHeaderSize, 0));
                 assert_eq!(compare_check(&file), refused);
                 continue;
             }
-            let found = Record {
-                key: [8; 16],
-                place: second + if in_version_2 { 21 } else { 16 },
-            };
-            assert_eq!(compare_find(&file, 6, 2, 0), Ok(Some(found)));
-            assert_eq!(compare_find(&file, 6, !2, 0), Ok(None));
-            assert_eq!(compare_find(&file, 6, 2, 2), Ok(Some(found)));
-            let by_content = compare_find(&file, 6, 2, content.into()).unwrap();
-            assert_eq!(by_content, (content == 0).then_some(found));
+            let keys = second + 8 + if in_version_2 { 17 } else { 12 };
+            compare_last(&file, content, keys + 16);
             let cut = Err(refusal_at(Reason::BlockCut, second));
             assert_eq!(compare_check(&file[..file.len() - 1]), cut);
             if long {
@@ -224,12 +222,20 @@ fn blocks_byte_by_byte() {
     }
 }
 
-/// Both magics with numbers at both ends of what means a long header.
-fn headers_about_the_bounds() -> impl Iterator<Item = ([u8; 4], u32, u32)> {
-    let numbers = [15, 16, 19, 20, 99, 100]
-        .into_iter()
-        .flat_map(|a| [0, 1, 2, 3, 5].map(|b| (a, b)));
-    numbers.flat_map(|(a, b)| MAGICS.map(|magic| (magic, a, b)))
+/// Sees that the last record is found, with its key at this place, by its id and, where its block
+/// has name hashes, by its path.
+#[track_caller]
+fn compare_last(file: &[u8], content: u32, place: usize) {
+    let (id, key) = (8, [8; 16]);
+    let found = Record { key, place };
+    assert_eq!(compare_find(file, id, 2, 0), Ok(Some(found)));
+    assert_eq!(compare_find(file, id, !2, 0), Ok(None));
+    let counts = content == 0;
+    let answer = compare_find(file, id, 2, content.into());
+    assert_eq!(answer, Ok(counts.then_some(found)));
+    let named = content & NO_NAME_HASHES == 0;
+    let by_path = named.then_some(PathRecord { id, key, place });
+    assert_eq!(raw::find_path(file, PATH, (2, 0)), Ok(by_path));
 }
 
 /// What the parts of a good file say: the first record of this id in a block that counts.

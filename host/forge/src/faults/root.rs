@@ -159,6 +159,14 @@ impl RootFile {
     }
 }
 
+/// Either magic with numbers at both ends of what means a long header.
+pub fn headers_about_the_bounds() -> impl Iterator<Item = Header> {
+    let numbers = [15, 16, 19, 20, 99, 100]
+        .into_iter()
+        .flat_map(|a| [0, 1, 2, 3, 5].map(|b| (a, b)));
+    numbers.flat_map(|(a, b)| MAGICS.map(|magic| Header { magic, a, b }))
+}
+
 /// None, or either magic with a short header or a good long one.
 fn random_header(random: &mut Random) -> Option<Header> {
     let (a, b) = match random.up_to(6) {
