@@ -132,7 +132,7 @@ fn m5_to_m8() {
 fn m10_headers() {
     let mut tally = Tally::new("files");
     for magic in MAGICS {
-        for b in (0..=6).chain([0x0100, 0x0200, 0x0100_0000, u32::MAX]) {
+        for b in (0..=6).chain([0x0100, 0x0200, 0x0100_0000, 0x0200_0000, u32::MAX]) {
             for a in (0..=120).chain([0x1000, 0x1400_0000, u32::MAX]) {
                 let long = (16..100).contains(&a) && (1..=4).contains(&b);
                 let block = if long && b > 1 { 17 } else { 12 };
