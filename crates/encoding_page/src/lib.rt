@@ -5,7 +5,6 @@ use encoding_header::Kind;
 use numbers::big;
 use parts::all_zero;
 use parts::byte;
-use parts::equal;
 use parts::part;
 use parts::rest;
 ghost use mathlib.Core.Path.{_≡_};
@@ -149,7 +148,7 @@ pub fn starts_with(file: &[u8], h: Header, kind: Kind, end: usize, from: usize, 
     if ended(file, h, kind, end, at) {
         return false;
     }
-    equal(
+    key::same(
         key,
         part(file, at + key_offset(kind), key_size(h, kind) as usize),
     )
@@ -237,7 +236,7 @@ pub fn find(file: &[u8], h: Header, kind: Kind, end: usize, from: usize, key: &[
     let size = key_size(h, kind) as usize;
     let mut at = next(file, h, kind, end, from);
     while !ended(file, h, kind, end, at) {
-        if equal(part(file, at + key_offset(kind), size), key) {
+        if key::same(part(file, at + key_offset(kind), size), key) {
             return Search::At(at);
         }
         at = next(file, h, kind, end, at + entry_size(file, h, kind, at));

@@ -9,12 +9,12 @@ use lib.ListN.{take}
 use Rattle.parts.specs.Part.{partAt, sameBytes}
 use Rattle.parts.proofs.Laws.{part-of-part}
 use Rattle.key.specs.Order.{compared, isEqual}
+use Rattle.key.proofs.Laws.{equal-is-same}
 use Rattle.index_layout.specs.declared.Layout.{Layout}
 use Rattle.index_layout.specs.Layout.{entrySize, onPage, entryAt, layoutOf, keyAt}
 use Rattle.index_layout.specs.Entries.{sizeAt, locationAt}
 use Rattle.index_layout.proofs.Laws.{key-within}
 use Rattle.index_entry.specs.Entry.{storedEntry}
-use Rattle.index_lookup.proofs.Laws.{equal-is-same}
 use Rattle.index_agreement.specs.Plain as plain
 use Rattle.index_agreement.specs.Plain.{Plain, found, absent, plainReading}
 use Rattle.entry_list.specs.Entries.{Entry, entriesFrom, pagesFrom, Sought, here, nowhere, firstWith}

@@ -118,7 +118,7 @@ fn last_key_right(index: &[u8], l: Layout, page: Page) -> bool
 {
     let last = l.entry_at(page, l.last_slot(page));
     let key = l.key_length as usize;
-    equal(
+    key::same(
         part(index, l.last_key_at(page), key),
         part(index, last, key),
     )

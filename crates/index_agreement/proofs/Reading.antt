@@ -7,14 +7,13 @@ use native.Mathlib.Omega.{arith}
 use Rattle.parts.specs.Part.{sameBytes}
 use Rattle.parts.proofs.Laws.{sameBytes-not}
 use Rattle.key.specs.Order.{isEqual}
-use Rattle.key.proofs.Laws.{equal-of-eq}
+use Rattle.key.proofs.Laws.{equal-of-eq, equal-is-same}
 use Rattle.halving.proofs.Laws.{by-order}
 use Rattle.index_layout.specs.declared.Layout.{Layout}
 use Rattle.index_layout.specs.Layout.{onPage, layoutOf, keyAt}
 use Rattle.index_layout.specs.Entries.{sizeAt, locationAt}
 use Rattle.index_lookup.specs.Lookup.{storedIn, Ended, endOutcome}
 use Rattle.index_agreement.specs.Plain.{Plain, found, absent, entriesFrom, pagesFrom, plainReading, withCount}
-use Rattle.index_lookup.proofs.Laws.{equal-is-same}
 use Rattle.index_agreement.proofs.Agreement.{Settled}
 
 module _ (s : List ℕ) (l : Layout) (sought : List ℕ) where

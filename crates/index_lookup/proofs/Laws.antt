@@ -10,9 +10,8 @@ use lib.ListN.{length, drop, length-drop}
 use lib.Seq.{take-all, drop-drop}
 use borrow.Author.Tests.{lt-ltb, le-ltb, eq-eqb, ne-eqb, not-true, not-false}
 use Rattle.parts.specs.Part.{partAt, sameBytes}
-use Rattle.parts.proofs.Laws.{sameBytes-of-eq, sameBytes-eq}
 use Rattle.key.specs.Order.{compared, isBelow, isEqual}
-use Rattle.key.proofs.Laws.{equal-of-eq, eq-of-equal, isEqual-true}
+use Rattle.key.proofs.Laws.{equal-is-same}
 use Rattle.refusal.specs.Check.{silent, refused}
 use Rattle.refusal.specs.Number.{index-key-length}
 use Rattle.refusal.proofs.Laws.{first-said, said, quiet, skip, after-said, after-quiet}
@@ -59,17 +58,6 @@ module _ (s sought : List ℕ) (l : Layout) (size : length sought ≡ l .«key_l
   slot-halved keys p at stride count r e f g c h =
       h ∙ rw c
       (halved-from keys at stride (entryAt l p) e (λ i. rw (f, g, zero-mul (entrySize l)) (omega arith)) (onPage l p))
-
--- ---- equal keys
-
-pub equal-is-same : (a b : List ℕ) → isEqual (compared a b) ≡ sameBytes a b
-equal-is-same a b = by (sameBytes a b) refl (isEqual (compared a b)) refl
-  where
-    by : (t : Bool) → sameBytes a b ≡ t → (u : Bool) → isEqual (compared a b) ≡ u → u ≡ t
-    by true e true f = refl
-    by false e false f = refl
-    by true e false f = sym f ∙ ap isEqual (equal-of-eq a b (sameBytes-eq a b e))
-    by false e true f = sym (sameBytes-of-eq a b (eq-of-equal a b (isEqual-true _ f))) ∙ e
 
 -- ---- where a lookup ends
 

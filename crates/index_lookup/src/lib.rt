@@ -5,7 +5,6 @@ use index_layout::Layout;
 use index_layout::Page;
 use index_layout::Slot;
 use index_open::Checked;
-use parts::equal;
 use parts::part;
 use refusal::INDEX_KEY_LENGTH;
 use refusal::Refusal;
@@ -108,7 +107,7 @@ fn seek_on(index: &[u8], l: Layout, key: &[u8], page: Page, count: u32) -> Answe
         return Answer::Absent(compared);
     }
     let at = l.entry_at(page, slot);
-    if !equal(part(index, at, l.key_length as usize), key) {
+    if !key::same(part(index, at, l.key_length as usize), key) {
         return Answer::Absent(compared + 1);
     }
     found(index, l, page, slot, compared + 1)

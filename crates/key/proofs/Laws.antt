@@ -1,24 +1,25 @@
 -- Laws of the order of keys, over all lists and all widths.
 use mathlib.Core.Path.{_≡_, refl, sym, ap, ap₂, _∙_}
-use mathlib.Core.Bool.{true}
+use mathlib.Core.Bool.{Bool, true, false}
 use mathlib.Core.List.{List, [], _∷_, _++_}
 use Prim.Native.Nat.{ℕ, zero, suc, _+_, _*_, _^_, _≤_, _<_}
-use native.Mathlib.Nat.{le-refl, zero-add, not-suc-le-zero}
+use native.Mathlib.Nat.{le-refl, zero-add, add-assoc, not-suc-le-zero}
 use native.Mathlib.Decide.{decLt}
 use native.Mathlib.Numerals.{add-one}
 use native.Mathlib.Omega.{arith}
 use lib.Arith.{digits-lt}
 use lib.Dec.{lit<}
-use lib.ListN.{length, take, drop, take-append-drop, drop-of-length-le}
-use lib.Seq.{drop-cons, getD-drop}
+use lib.ListN.{length, take, drop, take-append-drop, drop-of-length-le, length-drop}
+use lib.Seq.{drop-cons, drop-drop, getD-drop}
 use borrow.Author.Tests.{lt-ltb, le-ltb}
-use Rattle.parts.specs.Part.{byteAt, partAt}
-use Rattle.parts.proofs.Laws.{partAt-byte}
+use Rattle.parts.specs.Part.{byteAt, partAt, sameBytes}
+use Rattle.parts.proofs.Laws.{partAt-byte, sameBytes-of-eq, sameBytes-eq}
 use Rattle.numbers.specs.Number.{bigAt}
 use Rattle.numbers.proofs.Laws.{bigAt-agree, bigAt-below}
 use Rattle.key.specs.declared.Order.{Order}
 use Rattle.key.specs.declared.Order.the-variants.{Below, Equal, Above}
 use Rattle.key.specs.Order.{decided, compared, isBelow, isEqual, isAbove}
+use Rattle.key.specs.Eight.{eightAt}
 
 -- ---- the three outcomes
 
@@ -96,6 +97,16 @@ eq-of-equal (x ∷ a) (y ∷ b) h =
     by-order x y (λ l. absurd (below-not-equal (first-below a b l) h))
     (λ e. ap₂ _∷_ e (eq-of-equal a b (cc (first-same a b x))))
     (λ l. absurd (equal-not-above h (first-above a b l)))
+
+-- Equal keys are the same bytes.
+pub equal-is-same : (a b : List ℕ) → isEqual (compared a b) ≡ sameBytes a b
+equal-is-same a b = by (sameBytes a b) refl (isEqual (compared a b)) refl
+  where
+    by : (t : Bool) → sameBytes a b ≡ t → (u : Bool) → isEqual (compared a b) ≡ u → u ≡ t
+    by true e true f = refl
+    by false e false f = refl
+    by true e false f = sym f ∙ ap isEqual (equal-of-eq a b (sameBytes-eq a b e))
+    by false e true f = sym (sameBytes-of-eq a b (eq-of-equal a b (isEqual-true _ f))) ∙ e
 
 -- ---- exchanged
 
@@ -175,43 +186,47 @@ compared-drop w a b e =
 
 -- ---- byte by byte
 
--- What is left from an offset on stands as the whole does.
-pub record Passed (a b : List ℕ) (at : ℕ) : Type 0 where
-  pub left : at ≤ length a
-  pub right : at ≤ length b
-  pub rest : compared a b ≡ compared (drop at a) (drop at b)
+-- What is left from an offset on stands as what is left from another one does.
+pub record Passed (a b : List ℕ) (from at : ℕ) : Type 0 where
+  pub rest : compared (drop from a) (drop from b) ≡ compared (drop at a) (drop at b)
 
-pub passed-none : (a b : List ℕ) → Passed a b 0
-passed-none a b = record { left = omega arith; right = omega arith; rest = refl }
+pub passed-none : (a b : List ℕ) (from : ℕ) → Passed a b from from
+passed-none a b from = record { rest = refl }
 
-module _ {a b : List ℕ} {at : ℕ} (p : Passed a b at) where
+module _ {a b : List ℕ} {from at : ℕ} (p : Passed a b from at) where
   module _ (l : at < length a) (m : at < length b) where
-    opened : compared a b ≡ compared (byteAt a at ∷ drop (suc at) a) (byteAt b at ∷ drop (suc at) b)
+    opened : compared (drop from a) (drop from b) ≡ compared (byteAt a at ∷ drop (suc at) a) (byteAt b at ∷ drop (suc at) b)
     opened = p .rest ∙ rw (drop-cons a at 0 l, drop-cons b at 0 m)
 
-    pub below-at : byteAt a at < byteAt b at → compared a b ≡ Below
+    pub below-at : byteAt a at < byteAt b at → compared (drop from a) (drop from b) ≡ Below
     below-at h = opened ∙ first-below _ _ h
 
-    pub above-at : byteAt b at < byteAt a at → compared a b ≡ Above
+    pub above-at : byteAt b at < byteAt a at → compared (drop from a) (drop from b) ≡ Above
     above-at h = opened ∙ first-above _ _ h
 
-    pub passed-more : byteAt a at ≡ byteAt b at → Passed a b (at + 1)
-    passed-more e = record {
-      left = omega arith;
-      right = omega arith;
-      rest = opened ∙ rw (e, add-one) (first-same _ _ _);
-    }
+    pub passed-more : byteAt a at ≡ byteAt b at → Passed a b from (at + 1)
+    passed-more e = record { rest = opened ∙ rw (e, add-one) (first-same _ _ _) }
 
-  pub equal-at-end : length a ≤ at → length b ≤ at → compared a b ≡ Equal
+  pub equal-at-end : length a ≤ at → length b ≤ at → compared (drop from a) (drop from b) ≡ Equal
   equal-at-end l m = p .rest ∙ rw (drop-of-length-le a l, drop-of-length-le b m) (compared-refl [])
 
-  pub below-at-end : length a ≤ at → at < length b → compared a b ≡ Below
+  pub below-at-end : length a ≤ at → at < length b → compared (drop from a) (drop from b) ≡ Below
   unfolding compared
   below-at-end l m = p .rest ∙ rw (drop-of-length-le a l, drop-cons b at 0 m)
 
-  pub above-at-end : at < length a → length b ≤ at → compared a b ≡ Above
+  pub above-at-end : at < length a → length b ≤ at → compared (drop from a) (drop from b) ≡ Above
   unfolding compared
   above-at-end l m = p .rest ∙ rw (drop-cons a at 0 l, drop-of-length-le b m)
+
+-- The first bytes decide where they differ. A byte past the end counts as 0.
+pub first-byte-below : (a b : List ℕ) → byteAt a 0 < byteAt b 0 → compared a b ≡ Below
+unfolding compared
+first-byte-below a [] h = absurd (omega arith)
+first-byte-below [] (y ∷ b) h = refl
+first-byte-below (x ∷ a) (y ∷ b) h = first-below a b h
+
+pub first-byte-above : (a b : List ℕ) → byteAt b 0 < byteAt a 0 → compared a b ≡ Above
+first-byte-above a b h = above-of-below b a (first-byte-below b a h)
 
 -- ---- many bytes at once
 
@@ -280,3 +295,39 @@ take-of-bigAt (suc w) (x ∷ a) (y ∷ b) u v l m h =
 pub drop-of-bigAt : (w : ℕ) (a b : List ℕ) → Bytes a → Bytes b → w ≤ length a → w ≤ length b → bigAt a 0 w ≡ bigAt b 0 w
     → compared a b ≡ compared (drop w a) (drop w b)
 drop-of-bigAt w a b u v l m h = compared-drop w a b (take-of-bigAt w a b u v l m h)
+
+-- ---- eight bytes at once
+
+-- Eight bytes as two halves.
+pub eight-halves : (s : List ℕ) (at : ℕ) → bigAt s at 8
+    ≡ (byteAt s at * 16777216 + byteAt s (at + 1) * 65536 + byteAt s (at + 2) * 256 + byteAt s (at + 3)) * 4294967296
+    + (byteAt s (at + 4) * 16777216 + byteAt s (at + 5) * 65536 + byteAt s (at + 6) * 256 + byteAt s (at + 7))
+unfolding bigAt
+eight-halves s at = rw (add-assoc at 1 1, add-assoc at 2 1, add-assoc at 3 1, add-assoc at 4 1, add-assoc at 5 1, add-assoc at 6 1) (omega arith)
+
+module _ (s : List ℕ) (at : ℕ) where
+  pub eight-there : at + 8 ≤ length s → eightAt s at ≡ bigAt s at 8
+  unfolding eightAt
+  eight-there h = rw (le-ltb (length s) (at + 8) h)
+
+  pub eight-short : length s < at + 8 → eightAt s at ≡ 0
+  unfolding eightAt
+  eight-short h = rw (lt-ltb (length s) (at + 8) h)
+
+drop-bytes : (s : List ℕ) (at : ℕ) → Bytes s → Bytes (drop at s)
+drop-bytes s at h i = rw (getD-drop at s i 0) (h (at + i))
+
+module _ {a b : List ℕ} {from at : ℕ} (p : Passed a b from at) (u : Bytes a) (v : Bytes b) where
+  pub below-eight : bigAt a at 8 < bigAt b at 8 → compared (drop from a) (drop from b) ≡ Below
+  below-eight h = p .rest ∙ below-of-bigAt 8 (drop at a) (drop at b) (drop-bytes b at v) (rw (bigAt-drop a at 8, bigAt-drop b at 8) h)
+
+  pub above-eight : bigAt b at 8 < bigAt a at 8 → compared (drop from a) (drop from b) ≡ Above
+  above-eight h = p .rest ∙ above-of-bigAt 8 (drop at a) (drop at b) (drop-bytes a at u) (rw (bigAt-drop a at 8, bigAt-drop b at 8) h)
+
+  pub passed-eight : at + 8 ≤ length a → at + 8 ≤ length b → bigAt a at 8 ≡ bigAt b at 8 → Passed a b from (at + 8)
+  passed-eight l m h = record {
+    rest = p .rest
+        ∙ drop-of-bigAt 8 (drop at a) (drop at b) (drop-bytes a at u) (drop-bytes b at v)
+        (omega (arith, length-drop at a)) (omega (arith, length-drop at b)) (rw (bigAt-drop a at 8, bigAt-drop b at 8) h)
+        ∙ rw (drop-drop 8 at a, drop-drop 8 at b);
+  }

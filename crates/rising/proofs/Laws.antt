@@ -99,7 +99,7 @@ module _ (keys : List ℕ) (stride width : ℕ) where
 
 -- ---- eight bytes of two keys decide
 
-pub eight-below : (s : List ℕ) (a b width : ℕ) → 8 ≤ width → ((i : ℕ) → byteAt s i < 256) → bigAt s a 8 < bigAt s b 8
+eight-below : (s : List ℕ) (a b width : ℕ) → 8 ≤ width → ((i : ℕ) → byteAt s i < 256) → bigAt s a 8 < bigAt s b 8
     → compared (partAt s a width) (partAt s b width) ≡ Below
 eight-below s a b width h bytes e =
     below-of-bigAt 8 (partAt s a width) (partAt s b width) (part-bytes s b width bytes) (rw (part-number s a width 8 h, part-number s b width 8 h) e)
@@ -108,10 +108,3 @@ pub eight-rises : (keys : List ℕ) (stride width i : ℕ) → 8 ≤ width → (
     → bigAt keys ((i - 1) * stride) 8 < bigAt keys (i * stride) 8 → risesAt keys stride width i ≡ true
 unfolding risesAt
 eight-rises keys stride width i h bytes e = ap isBelow (eight-below keys ((i - 1) * stride) (i * stride) width h bytes e)
-
--- eight bytes as two halves
-pub eight-halves : (s : List ℕ) (at : ℕ) → bigAt s at 8
-    ≡ (byteAt s at * 16777216 + byteAt s (at + 1) * 65536 + byteAt s (at + 2) * 256 + byteAt s (at + 3)) * 4294967296
-    + (byteAt s (at + 4) * 16777216 + byteAt s (at + 5) * 65536 + byteAt s (at + 6) * 256 + byteAt s (at + 7))
-unfolding bigAt
-eight-halves s at = rw (add-assoc at 1 1, add-assoc at 2 1, add-assoc at 3 1, add-assoc at 4 1, add-assoc at 5 1, add-assoc at 6 1) (omega arith)

@@ -1,35 +1,10 @@
 // Whether keys that lie a fixed number of bytes apart rise strictly.
+use key::eight;
 use parts::part;
 ghost use mathlib.Core.Path.{_≡_};
-ghost use Prim.Native.Nat.{_+_, _-_, _≤_, _<_};
-ghost use lib.ListN.{length};
-ghost use Rattle.parts.specs.Part.{byteAt};
-ghost use Rattle.numbers.specs.Number.{bigAt};
+ghost use Prim.Native.Nat.{_-_, _≤_, _<_};
 ghost use Rattle.rising.specs.Fall as spec;
 ghost use Rattle.rising.specs.Skipped.{Skipped};
-
-fn wide(s: &[u8], at: usize) -> u64
-    requires { ⌜ at < length (now s) ⌝ }
-    ensures { λ r. ⌜ (r ≡ byteAt (now (s .entry)) at) × (r < 256) ⌝ }
-{
-    s[at] as u64
-}
-
-// Eight bytes that are all there, as a big-endian number.
-fn eight(s: &[u8], at: usize) -> u64
-    requires { ⌜ at + 8 ≤ length (now s) ⌝ }
-    ensures { λ r. ⌜ r ≡ bigAt (now (s .entry)) at 8 ⌝ }
-{
-    let high = wide(s, at) * 16777216
-        + wide(s, at + 1) * 65536
-        + wide(s, at + 2) * 256
-        + wide(s, at + 3);
-    let low = wide(s, at + 4) * 16777216
-        + wide(s, at + 5) * 65536
-        + wide(s, at + 6) * 256
-        + wide(s, at + 7);
-    high * 4294967296 + low
-}
 
 // The first key from one on whose first eight bytes are not above those of the key before, or the count. Nearly all
 // neighbours among sorted keys are told by these bytes alone.

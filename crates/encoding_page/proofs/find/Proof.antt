@@ -55,7 +55,7 @@ returns : tie.Need-returns Inv-loop μ-loop
 returns c =
     let compared = c .before in
     let e = compared .before .before .before in (
-      search-found _ _ _ _ _ _ _ (loop-at e .loop .inv) _ (not-ended e) (key-is (compared .before)) (sym (compared .equal .ensures) ∙ c .if2 .taken),
+      search-found _ _ _ _ _ _ _ (loop-at e .loop .inv) _ (not-ended e) (key-is (compared .before)) (sym (compared .same .ensures) ∙ c .if2 .taken),
       found-inside _ _ _ _ _ (not-ended e),
     )
 
@@ -74,7 +74,7 @@ loop-again c =
     let other = c .before .before in
     let p = other .before .before in
     let e = p .before .before in
-    let differs = sym (other .before .equal .ensures) ∙ other .if2 .left in
+    let differs = sym (other .before .same .ensures) ∙ other .if2 .left in
     searching-next _ _ _ _ _ _ _ (loop-at e .loop .inv) _ _ (not-ended e) (key-is p) differs (c .next2 .ensures ∙ rw (c .before .entry-size .ensures))
 
 returns-2 : tie.Need-returns-2 Inv-loop μ-loop

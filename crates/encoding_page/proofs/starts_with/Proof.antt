@@ -25,7 +25,7 @@ returns-2 c =
     let one = sized .before .before in
     let entry = sym (one .before .ended .ensures) ∙ one .if1 .left in
     starts-first _ _ _ _ _ _ (one .before .before .next .ensures) _ _ _ entry
-    (c .before .part .ensures .0 ∙ rw (sized .before .key-offset .ensures, sized .key-size .ensures)) (c .equal .ensures)
+    (c .before .part .ensures .0 ∙ rw (sized .before .key-offset .ensures, sized .key-size .ensures)) (c .same .ensures)
 
 pub starts-with-spec : {M : Type 1} → statement M
 starts-with-spec =

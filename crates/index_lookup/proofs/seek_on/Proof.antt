@@ -20,7 +20,7 @@ returns-2 c =
     let start = find-slot .before .before .before in
     let a = start .args in
     other-key _ _ (a .l) (a .page .0) (a .count) _ _ (find-slot .find-slot .ensures .0) (on-page .on-page .ensures)
-    _ _ _ (else1 .if1 .left) (entry-at .entry-at .ensures) (c .before .before .part .ensures .0) (c .before .equal .ensures) (c .if2 .taken)
+    _ _ _ (else1 .if1 .left) (entry-at .entry-at .ensures) (c .before .before .part .ensures .0) (c .before .same .ensures) (c .if2 .taken)
 
 returns-3 : tie.Need-returns-3
 returns-3 c =
@@ -32,7 +32,7 @@ returns-3 c =
     let start = find-slot .before .before .before in
     let a = start .args in
     same-key _ _ (a .l) (a .page .0) (a .count) _ _ (find-slot .find-slot .ensures .0) (on-page .on-page .ensures)
-    _ _ _ (else1 .if1 .left) (entry-at .entry-at .ensures) (part .part .ensures .0) (c .before .before .equal .ensures)
+    _ _ _ (else1 .if1 .left) (entry-at .entry-at .ensures) (part .part .ensures .0) (c .before .before .same .ensures)
     _ (c .before .if2 .left) (c .found .ensures)
 
 pub seek-on-spec : {M : Type 1} → statement M

@@ -5,6 +5,7 @@ use native.Mathlib.Nat.{le-refl}
 use native.Mathlib.Omega.{arith}
 use borrow.Author.Needs.{needs}
 use Rattle.numbers.specs.Number.{bigAt}
+use Rattle.key.proofs.Laws.{eight-there}
 use Rattle.rising.specs.Fall.{fallFrom}
 use Rattle.rising.proofs.Laws.{at-fits, at-least, key-at, before-at, next-at, rises-on, eight-rises}
 use Rattle.rising.proofs.skip.Statement.{statement}
@@ -44,24 +45,14 @@ sub-eight c =
     let a = start .args in
     omega (arith, at-least (a .from) (a .stride) (omega arith))
 
-eight-requires : tie.Need-eight-requires Inv-loop μ-loop
-eight-requires c κs =
-    let start = c .before .before .before .before in
-    let a = start .args in
-    omega (arith, key-at (a .from) (a .stride) (a .count) (omega arith), at-least (a .from) (a .stride) (omega arith))
-
 loop-holds : tie.Need-loop-holds Inv-loop μ-loop
 loop-holds c =
     let start = c .before .before .before .before .before in
     let a = start .args in
-    (search needs, omega arith, refl, c .eight .ensures ∙ ap (λ n. bigAt (a .keys .now) n 8) (before-at (a .from) (a .stride) (omega arith)), refl)
-
-eight-requires-2 : tie.Need-eight-requires-2 Inv-loop μ-loop
-eight-requires-2 c κs =
-    let start = c .before .before .before .before .before .before .before in
-    let a = start .args in
-    let l = c .before .loop in
-    omega (arith, l .inv .2, key-at (l .i) (a .stride) (a .count) (omega arith))
+    let there = eight-there (a .keys .now) (a .from * a .stride - a .stride)
+    (omega (arith, key-at (a .from) (a .stride) (a .count) (omega arith), at-least (a .from) (a .stride) (omega arith))) in
+    let first = c .eight .ensures ∙ there ∙ ap (λ n. bigAt (a .keys .now) n 8) (before-at (a .from) (a .stride) (omega arith)) in
+    (search needs, omega arith, refl, first, refl)
 
 returns-4 : tie.Need-returns-4 Inv-loop μ-loop
 returns-4 c =
@@ -85,7 +76,8 @@ loop-again c =
     let a = start .args in
     let s = a .keys .now in
     let l = loop .loop in
-    let here = c .before .eight2 .ensures ∙ ap (λ n. bigAt s n 8) (l .inv .2) in
+    let there = eight-there s (l .at) (omega (arith, l .inv .2, key-at (l .i) (a .stride) (a .count) (omega arith))) in
+    let here = c .before .eight2 .ensures ∙ there ∙ ap (λ n. bigAt s n 8) (l .inv .2) in
     let above : bigAt s ((l .i - 1) * a .stride) 8 < bigAt s (l .i * a .stride) 8 = rw (← l .inv .3, ← here) (c .if4 .left) in
     let rises = eight-rises s (a .stride) (a .width) (l .i) (else1 .if1 .left) (λ j. shared-slice-known .shared-slice-known .given j .fits) above in
     let back : l .i ≡ l .i + 1 - 1 = omega arith in (
@@ -113,9 +105,9 @@ skip-spec =
     returns-3
     mul-at
     sub-eight
-    eight-requires
+    (λ c κs. search needs)
     loop-holds
-    eight-requires-2
+    (λ c κs. search needs)
     returns-4
     add-at
     (λ c. search needs)

@@ -20,7 +20,7 @@ returns c =
     let l = a .l in
     let p = a .page .0 in
     let slot = last-slot .last-slot .ensures in
-    hash-told _ _ _ _ (c .equal .result) last-key p (c .equal .ensures)
+    hash-told _ _ _ _ (c .same .result) last-key p (c .same .ensures)
     (c .before .before .part .ensures .0 ∙ ap (λ at. partAt (a .index .now) at (l .«key_length»)) (last-key-at .last-key-at .ensures))
     (c .before .part2 .ensures .0 ∙ ap (λ at. partAt (a .index .now) at (l .«key_length»)) (entry-at .entry-at .ensures ∙ ap (entryAt l p) slot))
 

@@ -1,9 +1,9 @@
--- `rising::wide`: a byte is below 256.
+-- `key::wide`: a byte is below 256.
 use mathlib.Core.Path.{refl}
 use native.Mathlib.Omega.{arith}
 use borrow.Author.Needs.{needs}
-use Rattle.rising.proofs.wide.Statement.{statement}
-use Rattle.rising.proofs.wide.Tie as tie
+use Rattle.key.proofs.wide.Statement.{statement}
+use Rattle.key.proofs.wide.Tie as tie
 
 cast-result : tie.Need-cast-result
 cast-result c = omega (arith, c .shared-slice-known .given (c .before .args .at))

@@ -1,9 +1,9 @@
--- `rising::eight`: eight bytes, the highest first.
+-- `key::eight_inside`: eight bytes, the highest first.
 use mathlib.Core.Path.{sym}
-use Rattle.rising.proofs.Laws.{eight-halves}
+use Rattle.key.proofs.Laws.{eight-halves}
 use borrow.Author.Needs.{needs}
-use Rattle.rising.proofs.eight.Statement.{statement}
-use Rattle.rising.proofs.eight.Tie as tie
+use Rattle.key.proofs.eight_inside.Statement.{statement}
+use Rattle.key.proofs.eight_inside.Tie as tie
 
 returns : tie.Need-returns
 returns c =
@@ -25,8 +25,8 @@ returns c =
     )
     (sym (eight-halves (start .args .s .now) (start .args .at)))
 
-pub eight-spec : {M : Type 1} → statement M
-eight-spec =
+pub eight-inside-spec : {M : Type 1} → statement M
+eight-inside-spec =
     tie.close
     (tie.spec
     (λ c κs. search needs)

@@ -1,0 +1,80 @@
+-- `key::compare_eights` meets its contract: the eights passed are the same; the first that differ decide, else the bytes that are left.
+use mathlib.Core.Path.{sym, _∙_}
+use Prim.Native.Nat.{_+_, _-_, _≤_}
+use native.Mathlib.Omega.{arith}
+use borrow.Author.Needs.{needs}
+use Rattle.key.proofs.Laws.{Passed, passed-none, below-eight, above-eight, passed-eight}
+use Rattle.key.proofs.compare_eights.Statement.{statement}
+use Rattle.key.proofs.compare_eights.Tie as tie
+
+abbrev Inv-loop : tie.InvT-loop
+Inv-loop a b both same₀ same = (same ≤ both) × Passed a b 0 same
+
+abbrev μ-loop : tie.MeasureT-loop
+μ-loop a b both same₀ same = both - same
+
+loop-holds : tie.Need-loop-holds Inv-loop μ-loop
+loop-holds c = (search needs, passed-none _ _ _)
+
+eight-inside-requires : tie.Need-eight-inside-requires Inv-loop μ-loop
+eight-inside-requires c κs = omega arith
+
+eight-inside-requires-2 : tie.Need-eight-inside-requires-2 Inv-loop μ-loop
+eight-inside-requires-2 c κs = omega arith
+
+returns : tie.Need-returns Inv-loop μ-loop
+returns c =
+    let second = c .before .before in
+    let loop = second .before .before .before in
+    let known-b = loop .before .before in
+    let known-a = known-b .before in
+    let x = second .before .eight-inside .ensures in
+    let y = second .eight-inside2 .ensures in
+    sym (below-eight (loop .loop .inv .1) (λ i. known-a .shared-slice-known .given i .fits) (λ i. known-b .shared-slice-known2 .given i .fits)
+    (rw (← x, ← y) (c .if2 .taken)))
+
+returns-2 : tie.Need-returns-2 Inv-loop μ-loop
+returns-2 c =
+    let second = c .before .before in
+    let loop = second .before .before .before in
+    let known-b = loop .before .before in
+    let known-a = known-b .before in
+    let x = second .before .eight-inside .ensures in
+    let y = second .eight-inside2 .ensures in
+    sym (above-eight (loop .loop .inv .1) (λ i. known-a .shared-slice-known .given i .fits) (λ i. known-b .shared-slice-known2 .given i .fits)
+    (rw (← x, ← y) (omega arith)))
+
+loop-again : tie.Need-loop-again Inv-loop μ-loop
+loop-again c =
+    let second = c .before in
+    let loop = second .before .before .before in
+    let known-b = loop .before .before in
+    let known-a = known-b .before in
+    let x = second .before .eight-inside .ensures in
+    let y = second .eight-inside2 .ensures in (
+      omega arith,
+      passed-eight (loop .loop .inv .1) (λ i. known-a .shared-slice-known .given i .fits) (λ i. known-b .shared-slice-known2 .given i .fits)
+          (omega arith) (omega arith) (sym x ∙ c .if1 .left ∙ y),
+    )
+
+returns-3 : tie.Need-returns-3 Inv-loop μ-loop
+returns-3 c = c .compare-bytes .ensures ∙ sym (c .before .before .loop .inv .1 .rest)
+
+pub compare-eights-spec : {M : Type 1} → statement M
+compare-eights-spec =
+    tie.close
+    (tie.spec
+    Inv-loop
+    μ-loop
+    (λ c κs. search needs)
+    loop-holds
+    (λ c. search needs)
+    eight-inside-requires
+    eight-inside-requires-2
+    returns
+    returns-2
+    (λ c. search needs)
+    (λ c. search needs)
+    loop-again
+    (λ c κs. search needs)
+    returns-3)
