@@ -1,59 +1,19 @@
--- `halving::halve` meets its contract: each turn leaves what the halving rule leaves.
-use mathlib.Core.Path.{sym, _∙_}
+-- `halving::halve` meets its contract: the halving by whole keys goes on where the one by eight bytes ended.
+use mathlib.Core.Path.{sym, ap, _∙_}
 use native.Mathlib.Omega.{arith}
 use borrow.Author.Needs.{needs}
-use Rattle.halving.specs.Halving.{keyBelow}
-use Rattle.halving.proofs.Laws.{Reached, reached-whole, reached-after, reached-before, reached-end, reached-most, offset-fits}
+use Rattle.halving.specs.Halving.{halve, keyBelow}
+use Rattle.halving.proofs.Laws.{halve-most}
 use Rattle.halving.proofs.halve.Statement.{statement}
 use Rattle.halving.proofs.halve.Tie as tie
 
-abbrev Inv-loop : tie.InvT-loop
-Inv-loop keys stride count key step start₀ left₀ compared₀ start left compared = Reached (keyBelow keys stride key) count start left compared
-
-abbrev μ-loop : tie.MeasureT-loop
-μ-loop keys stride count key step start₀ left₀ compared₀ start left compared = left
-
-loop-holds : tie.Need-loop-holds Inv-loop μ-loop
-loop-holds c = reached-whole _ _
-
-mul-part : tie.Need-mul-part Inv-loop μ-loop
-mul-part c = offset-fits (omega arith) (omega arith)
-
-loop-again : tie.Need-loop-again Inv-loop μ-loop
-unfolding keyBelow
-loop-again c =
-    let loop = c .before .before .before .before in
-    reached-after (loop .loop .inv) (search needs) (sym (rw (c .before .before .part .ensures .0) at (c .before .rises .ensures)) ∙ c .if1 .taken)
-
-loop-again-2 : tie.Need-loop-again-2 Inv-loop μ-loop
-unfolding keyBelow
-loop-again-2 c =
-    let loop = c .before .before .before .before in
-    reached-before (loop .loop .inv) (search needs) (sym (rw (c .before .before .part .ensures .0) at (c .before .rises .ensures)) ∙ c .if1 .left)
-
-returns : tie.Need-returns Inv-loop μ-loop
+returns : tie.Need-returns
+unfolding halve
 returns c =
-    let reached = c .before .loop .inv in
-    (sym (reached-end reached (search needs)), reached-most reached (search needs) (search needs))
+    let eights = c .before in
+    let a = eights .before .before .before .args in
+    let same = c .halve-on .ensures ∙ sym (eights .halve-eights .ensures .same) in
+    (same, omega (arith, ap (λ h. h .count) same, halve-most (keyBelow (a .keys .now) (a .stride) (a .key .now)) (a .count) (omega arith)))
 
 pub halve-spec : {M : Type 1} → statement M
-halve-spec =
-    tie.close
-    (tie.spec
-    Inv-loop
-    μ-loop
-    loop-holds
-    (λ c. search needs)
-    (λ c. search needs)
-    (λ c. search needs)
-    mul-part
-    (λ c κs. search needs)
-    (λ c κs. search needs)
-    (λ c. search needs)
-    (λ c. search needs)
-    (λ c. search needs)
-    (λ c. search needs)
-    loop-again
-    (λ c. search needs)
-    loop-again-2
-    returns)
+halve-spec = tie.close (tie.spec (λ c κs. search needs) (λ c κs. search needs) returns)
