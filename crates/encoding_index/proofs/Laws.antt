@@ -1,14 +1,15 @@
 -- Laws of the choice of a page.
-use mathlib.Core.Path.{_≡_, refl, sym, ap, _∙_}
-use mathlib.Core.Bool.{Bool, true, false, cond}
+use mathlib.Core.Path.{_≡_, refl, ap, _∙_}
+use mathlib.Core.Bool.{Bool, true, false}
 use mathlib.Core.List.{List}
-use Prim.Native.Nat.{ℕ, zero, suc, _+_, _-_, _≤_, _<_}
+use Prim.Native.Nat.{ℕ, zero, suc, _-_, _≤_, _<_}
 use native.Mathlib.Nat.{le-refl, not-suc-le-zero}
 use native.Mathlib.Omega.{arith}
 use Rattle.parts.specs.Part.{partAt}
 use Rattle.numbers.specs.Number.{bigAt}
 use Rattle.key.specs.Order.{compared, isBelow, isAbove}
-use Rattle.key.proofs.Laws.{Bytes, above-is-below, above-of-bigAt, part-bytes, part-number}
+use Rattle.key.specs.Eight.{eightAt}
+use Rattle.key.proofs.Laws.{Bytes, above-is-below, above-of-bigAt, part-bytes, part-number, eight-some}
 use Rattle.encoding_header.specs.declared.Kind.{Kind}
 use Rattle.encoding_header.specs.declared.Header.{Header}
 use Rattle.encoding_header.specs.Header.{tableOf, rowAt, firstKey}
@@ -32,12 +33,14 @@ module _ (above : ℕ → Bool) where
 
 -- the first eight bytes tell that a key is above
 pub above-by-eight : (s : List ℕ) (h : Header) (kind : Kind) (sought : List ℕ) (i mine theirs : ℕ) → Bytes s → 8 ≤ tableOf h kind .«key_size»
-    → mine ≡ bigAt sought 0 8 → theirs ≡ bigAt s (rowAt h kind i) 8 → mine < theirs → firstAbove s h kind sought i ≡ true
+    → mine ≡ bigAt sought 0 8 → theirs ≡ eightAt s (rowAt h kind i) → mine < theirs → firstAbove s h kind sought i ≡ true
 unfolding firstKey
 above-by-eight s h kind sought i mine theirs bytes wide p q less =
     let n : ℕ = tableOf h kind .«key_size» in
+    let there = eight-some s (rowAt h kind i) (omega arith) in
     ap isAbove
-    (above-of-bigAt 8 (partAt s (rowAt h kind i) n) sought (part-bytes s (rowAt h kind i) n bytes) (omega (arith, part-number s (rowAt h kind i) n 8 wide)))
+    (above-of-bigAt 8 (partAt s (rowAt h kind i) n) sought (part-bytes s (rowAt h kind i) n bytes)
+    (omega (arith, there, part-number s (rowAt h kind i) n 8 wide)))
 
 -- ---- passing over pages
 

@@ -3,6 +3,7 @@
 use encoding_header::Header;
 use encoding_header::Kind;
 use encoding_header::first_key;
+use key::eight;
 use numbers::big;
 ghost use mathlib.Core.Path.{_≡_};
 ghost use Rattle.encoding_index.specs.Chosen as spec;
@@ -17,7 +18,7 @@ fn skip(file: &[u8], h: Header, kind: Kind, key: &[u8], from: u32) -> u32
     let sought = big(key, 0, 8);
     let mut n = from;
     while 0 < n {
-        if big(file, h.row_at(kind, n - 1), 8) <= sought {
+        if eight(file, h.row_at(kind, n - 1)) <= sought {
             return n;
         }
         n -= 1;

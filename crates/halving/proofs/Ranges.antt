@@ -2,7 +2,7 @@
 use mathlib.Core.Path.{_≡_, refl, sym, ap, _∙_}
 use mathlib.Core.Bool.{Bool, true, false, cond}
 use mathlib.Core.List.{List}
-use Prim.Native.Nat.{ℕ, suc, _+_, _-_, _*_, _/_, _≤_, _<_}
+use Prim.Native.Nat.{ℕ, suc, _+_, _-_, _*_, _≤_, _<_}
 use native.Mathlib.Nat.{suc-mul, mul-le-mul-right}
 use native.Mathlib.Omega.{arith}
 use lib.Dec.{ltb}
@@ -127,7 +127,8 @@ module _ (keys : List ℕ) (stride sought : ℕ) (r one two to : Range) (before 
   y-front = ap (λ f. f .middle) then-fronts
 
   z-front : z ≡ frontOf keys stride two
-  z-front = z-is ∙ ap (λ f. cond (ltb (then .middle) sought) (f .after) (f .before)) then-fronts ∙ picked-front keys stride one _ ∙ ap (frontOf keys stride) (sym two-is)
+  z-front = z-is ∙ ap (λ f. cond (ltb (then .middle) sought) (f .after) (f .before)) then-fronts
+      ∙ picked-front keys stride one _ ∙ ap (frontOf keys stride) (sym two-is)
 
   one-holds : Holds 3 one
   one-holds = rw one-is (next-holds 3 r _ h)

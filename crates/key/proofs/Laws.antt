@@ -314,6 +314,14 @@ module _ (s : List ℕ) (at : ℕ) where
   unfolding eightAt
   eight-short h = rw (lt-ltb (length s) (at + 8) h)
 
+  -- Where the read is not 0, the bytes are there.
+  pub eight-some : 0 < eightAt s at → eightAt s at ≡ bigAt s at 8
+  eight-some h = go (decLt (length s) (at + 8))
+    where
+      go : Dec (length s < at + 8) → eightAt s at ≡ bigAt s at 8
+      go (yes l) = absurd (omega (arith, eight-short l))
+      go (no l) = eight-there (omega arith)
+
 drop-bytes : (s : List ℕ) (at : ℕ) → Bytes s → Bytes (drop at s)
 drop-bytes s at h i = rw (getD-drop at s i 0) (h (at + i))
 

@@ -1,19 +1,19 @@
 -- Laws of rising keys.
-use mathlib.Core.Path.{_≡_, refl, sym, ap, ap₂, _∙_}
+use mathlib.Core.Path.{_≡_, sym, ap, ap₂, _∙_}
 use mathlib.Core.Bool.{Bool, true, false, not, cond}
-use mathlib.Core.List.{List, [], _∷_}
+use mathlib.Core.List.{List}
 use Prim.Native.Nat.{ℕ, zero, suc, _+_, _-_, _*_, _≤_, _<_}
-use native.Mathlib.Nat.{le-refl, add-zero, add-assoc, suc-mul, one-mul, mul-le-mul, mul-le-mul-right, not-suc-le-zero}
+use native.Mathlib.Nat.{le-refl, suc-mul, one-mul, mul-le-mul, mul-le-mul-right, not-suc-le-zero}
 use native.Mathlib.Omega.{arith}
 use lib.Dec.{ltb}
-use borrow.Author.Tests.{lt-ltb, le-ltb, not-true}
+use borrow.Author.Tests.{lt-ltb, le-ltb}
 use Rattle.parts.specs.Part.{byteAt, partAt}
 use Rattle.numbers.specs.Number.{bigAt}
 use Rattle.key.specs.Order.{compared, isBelow}
 use Rattle.key.specs.declared.Order.the-variants.{Below}
 use Rattle.key.proofs.Laws.{below-of-bigAt, part-bytes, part-number}
-use Rattle.refusal.specs.Check.{Check, silent, refused, refusedIf, first, firstFrom}
-use Rattle.refusal.proofs.Laws.{first-said, first-quiet, said, quiet}
+use Rattle.refusal.specs.Check.{Check, refusedIf, first, firstFrom}
+use Rattle.refusal.proofs.Laws.{first-said, first-quiet}
 use Rattle.rising.specs.Fall.{risesAt, fallFrom}
 
 -- a key's offset fits, and is at least the stride from the second key on

@@ -33,7 +33,7 @@ loop-again c =
     let wide = ap (λ (t : Table). t .«key_size») (wide-enough .before .before .table .ensures) in
     skipped-one _ _ _ _ _ _ (turn .before .loop .inv) (turn .loop-test .taken)
     (above-by-eight _ _ _ _ _ _ _ (λ k. known .shared-slice-known .given k .fits) (omega (arith, wide-enough .if1 .left, wide))
-    (read .big .ensures) (c .before .big2 .ensures ∙ rw (row .row-at .ensures)) (c .if2 .left))
+    (read .big .ensures) (c .before .eight .ensures ∙ rw (row .row-at .ensures)) (c .if2 .left))
 
 returns-3 : tie.Need-returns-3 Inv-loop μ-loop
 returns-3 c = c .before .loop .inv

@@ -14,7 +14,10 @@ mul-eight c = offset-fits (omega arith) (omega arith)
 
 returns : tie.Need-returns
 unfolding frontOf
-returns c = c .eight .ensures ∙ ap (λ m. eightAt (c .before .before .before .args .keys .now) (m * c .before .before .before .args .stride)) (c .before .middle .ensures)
+returns c =
+    let middle = c .before in
+    let a = middle .before .before .args in
+    c .eight .ensures ∙ ap (λ m. eightAt (a .keys .now) (m * a .stride)) (middle .middle .ensures)
 
 pub front-spec : {M : Type 1} → statement M
 front-spec =

@@ -1,6 +1,4 @@
 -- `halving::halve_eights` meets its contract: each turn makes three steps of the halving rule.
-use mathlib.Core.Path.{_≡_, sym, ap, _∙_}
-use Prim.Native.Nat.{_≤_}
 use native.Mathlib.Omega.{arith}
 use borrow.Author.Needs.{needs}
 use Rattle.halving.specs.Halving.{keyBelow}
@@ -20,7 +18,9 @@ mul-if3 : tie.Need-mul-if3 Inv-loop μ-loop
 mul-if3 c = offset-fits (omega arith) (omega arith)
 
 three-steps-requires : tie.Need-three-steps-requires Inv-loop μ-loop
-three-steps-requires c κs = leads-holds 7 (record { keys = omega arith; places = omega arith; counts = omega arith }) (c .before .before .loop .inv) (omega arith)
+three-steps-requires c κs =
+    leads-holds 7 (record { keys = omega arith; places = omega arith; counts = omega arith })
+    (c .before .before .loop .inv) (omega arith)
 
 loop-less : tie.Need-loop-less Inv-loop μ-loop
 loop-less c = omega (arith, c .before .before .before .three-steps .ensures .1)

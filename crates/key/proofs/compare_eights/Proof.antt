@@ -1,6 +1,6 @@
 -- `key::compare_eights` meets its contract: the eights passed are the same; the first that differ decide, else the bytes that are left.
 use mathlib.Core.Path.{sym, _∙_}
-use Prim.Native.Nat.{_+_, _-_, _≤_}
+use Prim.Native.Nat.{_-_, _≤_}
 use native.Mathlib.Omega.{arith}
 use borrow.Author.Needs.{needs}
 use Rattle.key.proofs.Laws.{Passed, passed-none, below-eight, above-eight, passed-eight}
