@@ -1,14 +1,21 @@
 -- Laws of the opening checks.
 use mathlib.Core.Path.{_≡_, refl, sym, ap, ap₂, _∙_}
 use mathlib.Core.Bool.{Bool, true, false, not, cond}
-use mathlib.Core.List.{List, _++_}
-use Prim.Native.Nat.{ℕ, _+_, _-_, _^_, _≤_}
+use mathlib.Core.List.{List, [], _∷_, _++_}
+use Prim.Native.Nat.{ℕ, zero, suc, _+_, _-_, _^_, _≤_, _<_}
+use native.Mathlib.Numerals.{add-one}
 use native.Mathlib.Omega.{arith}
-use lib.Dec.{ltb, eqb, lit≤}
-use lib.ListN.{length, take, drop, replicate}
+use lib.Dec.{ltb, eqb}
+use lib.ListN.{length, take, drop, replicate, length-append}
+use lib.Seq.{drop-cons}
+use Rattle.numbers.specs.Number.{littleAt}
+use Rattle.md5_block.specs.declared.Words.{Words}
+use Rattle.md5_block.specs.Block.{addends, word, wordsOf, block, whole}
+use Rattle.md5_block.proofs.BlockLaws.{whole-one}
+use Rattle.md5_end.specs.End.{littleBytes, padding, initial, digestOf}
 use Rattle.md5.specs.Message.{md5, digestOr0}
-use Rattle.parts.specs.Part.{partAt, sameBytes, overlay}
-use Rattle.parts.proofs.Laws.{partAt-inside, overlay-inside}
+use Rattle.parts.specs.Part.{byteAt, partAt, sameBytes}
+use Rattle.parts.proofs.Laws.{partAt-inside}
 use Rattle.refusal.specs.declared.Refusal.{Refusal}
 use Rattle.refusal.specs.Check.{Check, silent, refused, refusedIf, first}
 use Rattle.refusal.specs.Outcome.{answered, after}
@@ -17,7 +24,8 @@ use Rattle.refusal.proofs.Laws.{silent-test, said, quiet, skip, first-right, fi
 use Rattle.index_layout.specs.declared.Layout.{Layout}
 use Rattle.index_open.specs.declared.Checked.{Checked}
 use Rattle.index_open.specs.declared.Checked.the-variants.{Passed, Refused}
-use Rattle.index_layout.specs.Layout.{pageSize, footerSize, versionAt, footerHashAt, mostEntries, entryCount, countCheck, indexLength, layoutOf}
+use Rattle.index_layout.specs.Layout.{pageSize, footerSize, versionAt, offsetWidthAt, entryCountAt, footerHashAt, hashLength, mostEntries}
+use Rattle.index_layout.specs.Layout.{entryCount, countCheck, indexLength, layoutOf}
 use Rattle.index_open.specs.Open.{fieldsCheck, hashedFooter, footerHashCheck, footerCheck, footerReading, opening, layoutValues, outcome, passes}
 use borrow.Author.Tests.{le-ltb, ltb-false}
 
@@ -35,15 +43,47 @@ first-eight-within m bytes h e = e ∙ ap (λ b. take 8 (cond b (replicate 16 0)
 pub first-eight-is : (m bytes : List ℕ) → length m ≤ pageSize → bytes ≡ take 8 (digestOr0 m) → bytes ≡ take 8 (md5 m)
 first-eight-is m bytes h = first-eight-within m bytes (omega arith)
 
--- the 20 bytes that the footer hash is of
-pub hashed-is : (f p h : List ℕ) → length f ≡ footerSize → p ≡ partAt f versionAt (footerHashAt - versionAt)
-    → h ≡ overlay (replicate 20 0) 0 p → h ≡ hashedFooter f
-hashed-is f p h size e o =
-    let inside : 8 + 12 ≤ length f = omega arith in
-    let long : length p ≡ 12 = ap length e ∙ partAt-inside f versionAt (footerHashAt - versionAt) inside in
-    let room : 0 + length p ≤ length (replicate {A = ℕ} 20 0) = rw long (lit≤ tt) in
-    let end : 0 + length p ≡ 12 = omega arith in
-    o ∙ overlay-inside (replicate 20 0) 0 p room ∙ ap₂ (λ a n. a ++ drop n (replicate 20 0)) e end
+-- the n bytes from an offset on, one by one
+abbrev bytesFrom : List ℕ → ℕ → ℕ → List ℕ
+bytesFrom s at zero = []
+bytesFrom s at (suc n) = byteAt s at ∷ bytesFrom s (at + 1) n
+
+part-bytes : (s : List ℕ) (at n : ℕ) → at + n ≤ length s → partAt s at n ≡ bytesFrom s at n
+part-bytes s at zero h = refl
+part-bytes s at (suc n) h =
+    let here : at < length s = omega arith in
+    ap (take (suc n)) (drop-cons s at 0 here)
+    ∙ ap (λ l. byteAt s at ∷ l) (ap (λ i. take n (drop i s)) (sym (add-one at)) ∙ part-bytes s (at + 1) n (omega arith))
+
+word-is : (s : List ℕ) (at : ℕ) → littleAt s at 4 ≡ word (bytesFrom s at 4)
+unfolding littleAt word
+word-is s at = omega arith
+
+-- the 20 bytes that the footer hash is of, and the words of their one block: three of the footer, and the same ones in every footer
+module _ (f : List ℕ) (size : length f ≡ footerSize) where
+  inside : versionAt + (footerHashAt - versionAt) ≤ length f
+  inside = omega arith
+
+  pub hashed-length : length (hashedFooter f) ≡ 20
+  hashed-length =
+      length-append (partAt f versionAt (footerHashAt - versionAt)) (replicate hashLength 0)
+      ∙ ap (λ n. n + hashLength) (partAt-inside f versionAt (footerHashAt - versionAt) inside)
+
+  pub block-laid : {a b c : ℕ} → a ≡ littleAt f versionAt 4 → b ≡ littleAt f offsetWidthAt 4 → c ≡ littleAt f entryCountAt 4
+      → a ∷ b ∷ c ∷ 0 ∷ 0 ∷ 128 ∷ 0 ∷ 0 ∷ 0 ∷ 0 ∷ 0 ∷ 0 ∷ 0 ∷ 0 ∷ 160 ∷ 0 ∷ [] ≡ wordsOf 16 (hashedFooter f ++ padding 20)
+  unfolding word wordsOf padding littleBytes
+  block-laid p q r =
+      rw (p, q, r, word-is f versionAt, word-is f offsetWidthAt, word-is f entryCountAt)
+      (ap (λ l. wordsOf 16 (l ++ replicate hashLength 0 ++ padding 20)) (sym (part-bytes f versionAt (footerHashAt - versionAt) inside)))
+
+-- 20 bytes and their padding are one block: the hash is that of its words
+pub block-hashed : (m : List ℕ) {x k h : List ℕ} {v w : Words} → length m ≡ 20 → x ≡ wordsOf 16 (m ++ padding 20) → k ≡ addends → v ≡ initial
+    → w ≡ block k x v → h ≡ take 8 (digestOf w) → h ≡ take 8 (md5 m)
+unfolding md5 padding littleBytes
+block-hashed m {w = w} size laid table start blocked told =
+    let long : length (m ++ padding 20) ≡ 64 = length-append m (padding 20) ∙ ap (λ n. n + 44) size in
+    let one : w ≡ whole addends (m ++ padding 20) initial = rw (blocked, table, start, laid) (sym (whole-one addends (m ++ padding 20) initial long)) in
+    told ∙ ap (λ e. take 8 (digestOf e)) (one ∙ ap (λ n. whole addends (m ++ padding n) initial) (sym size))
 
 -- a check told by its test
 pub hash-told : (a b c d : List ℕ) (r : Bool) (number place : ℕ) → r ≡ sameBytes a b → a ≡ c → b ≡ d

@@ -20,10 +20,14 @@ use index_layout::RESERVED_AT;
 use index_layout::SIZE_WIDTH;
 use index_layout::SIZE_WIDTH_AT;
 use index_layout::VERSION_AT;
+use md5_block::addends;
+use md5_block::block;
+use md5_end::eight;
+use md5_end::initial;
 use numbers::little;
 use numbers::within;
+use numbers::word;
 use parts::byte;
-use parts::copy;
 use parts::equal;
 use parts::part;
 use refusal::ENTRY_COUNT;
@@ -42,8 +46,11 @@ use refusal::Verdict;
 use refusal::refuse;
 ghost use mathlib.Core.Path.{_≡_};
 ghost use mathlib.Core.Bool.{not};
+ghost use mathlib.Core.List.{_++_};
 ghost use Prim.Native.Nat.{_<_, _≤_};
 ghost use lib.ListN.{length};
+ghost use Rattle.md5_block.specs.Block.{wordsOf};
+ghost use Rattle.md5_end.specs.End.{padding};
 ghost use Rattle.refusal.specs.Check.{checkOf, refusedIf, first};
 ghost use Rattle.refusal.specs.Number.{footer-hash};
 ghost use Rattle.index_layout.specs.Layout as layout;
@@ -118,20 +125,28 @@ fn check_fields(footer: &[u8], low: u8, high: u8) -> Verdict
     check_value(v, footer, HASH_LENGTH_AT, HASH_LENGTH, FOOTER_HASH_LENGTH)
 }
 
+// The one block of the message that the footer hash is of: the bytes from the version on, zeros for the hash itself, and the padding.
+// Its words are read from the footer as they stand there: quicker than to copy the message and pad it.
+fn footer_block(footer: &[u8]) -> [u32; 16]
+    requires { ⌜ length (now footer) ≡ layout.footerSize ⌝ }
+    ensures { λ r. ⌜ r ≡ wordsOf 16 (spec.hashedFooter (now (footer .entry)) ++ padding 20) ⌝ }
+{
+    let a = word(footer, VERSION_AT);
+    let b = word(footer, OFFSET_WIDTH_AT);
+    let c = word(footer, ENTRY_COUNT_AT);
+    // 128 is the set bit after the message, and 160 the number of bits in its 20 bytes.
+    [a, b, c, 0, 0, 128, 0, 0, 0, 0, 0, 0, 0, 0, 160, 0]
+}
+
 // The first eight bytes of the hash of a footer, with the stored hash taken as zero, against the stored ones.
 fn footer_hash_right(footer: &[u8]) -> bool
     requires { ⌜ length (now footer) ≡ layout.footerSize ⌝ }
     ensures { λ r. ⌜ spec.footerHashCheck (now (footer .entry)) ≡ refusedIf (not r) footer-hash 0 ⌝ }
 {
-    let mut hashed = [0u8; 20];
-    copy(
-        part(footer, VERSION_AT, FOOTER_HASH_AT - VERSION_AT),
-        &mut hashed,
-        0,
-    );
-    let hash = md5::first_eight(&hashed);
-    let bytes = hash.bytes;
-    equal(&bytes, part(footer, FOOTER_HASH_AT, HASH_LENGTH as usize))
+    let words = footer_block(footer);
+    let k = addends();
+    let hash = eight(block(initial(), &words, &k));
+    equal(&hash, part(footer, FOOTER_HASH_AT, HASH_LENGTH as usize))
 }
 
 // The entry count, the one number that is little-endian.
