@@ -44,11 +44,12 @@ pub first-eight-is : (m bytes : List ℕ) → length m ≤ pageSize → bytes �
 first-eight-is m bytes h = first-eight-within m bytes (omega arith)
 
 -- the n bytes from an offset on, one by one
-abbrev bytesFrom : List ℕ → ℕ → ℕ → List ℕ
+unfoldable pub bytesFrom : List ℕ → ℕ → ℕ → List ℕ
 bytesFrom s at zero = []
 bytesFrom s at (suc n) = byteAt s at ∷ bytesFrom s (at + 1) n
 
-part-bytes : (s : List ℕ) (at n : ℕ) → at + n ≤ length s → partAt s at n ≡ bytesFrom s at n
+pub part-bytes : (s : List ℕ) (at n : ℕ) → at + n ≤ length s → partAt s at n ≡ bytesFrom s at n
+unfolding bytesFrom
 part-bytes s at zero h = refl
 part-bytes s at (suc n) h =
     let here : at < length s = omega arith in
@@ -56,7 +57,7 @@ part-bytes s at (suc n) h =
     ∙ ap (λ l. byteAt s at ∷ l) (ap (λ i. take n (drop i s)) (sym (add-one at)) ∙ part-bytes s (at + 1) n (omega arith))
 
 word-is : (s : List ℕ) (at : ℕ) → littleAt s at 4 ≡ word (bytesFrom s at 4)
-unfolding littleAt word
+unfolding littleAt word bytesFrom
 word-is s at = omega arith
 
 -- the 20 bytes that the footer hash is of, and the words of their one block: three of the footer, and the same ones in every footer
@@ -71,7 +72,7 @@ module _ (f : List ℕ) (size : length f ≡ footerSize) where
 
   pub block-laid : {a b c : ℕ} → a ≡ littleAt f versionAt 4 → b ≡ littleAt f offsetWidthAt 4 → c ≡ littleAt f entryCountAt 4
       → a ∷ b ∷ c ∷ 0 ∷ 0 ∷ 128 ∷ 0 ∷ 0 ∷ 0 ∷ 0 ∷ 0 ∷ 0 ∷ 0 ∷ 0 ∷ 160 ∷ 0 ∷ [] ≡ wordsOf 16 (hashedFooter f ++ padding 20)
-  unfolding word wordsOf padding littleBytes
+  unfolding word wordsOf padding littleBytes bytesFrom
   block-laid p q r =
       rw (p, q, r, word-is f versionAt, word-is f offsetWidthAt, word-is f entryCountAt)
       (ap (λ l. wordsOf 16 (l ++ replicate hashLength 0 ++ padding 20)) (sym (part-bytes f versionAt (footerHashAt - versionAt) inside)))

@@ -7,7 +7,7 @@ use native.Mathlib.Nat.{zero-mul, zero-add, add-zero, mul-assoc, mul-add, mul-le
 use native.Mathlib.Decide.{decLt}
 use native.Mathlib.Omega.{arith}
 use lib.ListN.{length, take, drop, replicate, length-drop}
-use lib.Seq.{take-all, drop-drop, drop-cons, getD-drop}
+use lib.Seq.{take-all, drop-drop, getD-drop}
 use borrow.Author.Tests.{le-ltb, eq-eqb, not-false}
 use Rattle.parts.specs.Part.{byteAt, partAt}
 use Rattle.parts.proofs.Laws.{partAt-inside, sameBytes-eq, allZero-eq, overlay-inside}
@@ -30,6 +30,7 @@ use Rattle.index_layout.specs.Entries.{entriesOf, entriesBy, listOf}
 use Rattle.index_layout.proofs.Laws.{on-page-placed, on-page-fits}
 use Rattle.index_open.specs.Open.{fieldCheck, fieldsCheckWith, fieldsCheck, hashedFooter, footerHashCheck}
 use Rattle.index_open.specs.Open.{footerCheck, footerReading, shortCheck, lengthCheck, opening}
+use Rattle.index_open.proofs.Laws.{bytesFrom, part-bytes}
 use Rattle.index_open.proofs.Opened.{Opened, opened, field-range, full-positive, entries-held, list-length, entries-length, page-inside}
 use Rattle.index.specs.Check.{pageHashCheck, paddingCheck, orderCheck, lastKeyCheck, pageCheck, pagesCheck, fullCheck}
 use Rattle.index_footer.specs.Footer.{footerAt, contentsOf, fields, hashedFields, footerWith}
@@ -171,18 +172,6 @@ module _ (s : List ℕ) (o : Opened s) where
         ∙ sym (part-add s 0 (lastKeyAt l 0) (footerAt l - lastKeyAt l 0)) ∙ ap (λ n. take n s) size
 
 -- ---- the footer
--- n bytes from an offset on
-bytesFrom : List ℕ → ℕ → ℕ → List ℕ
-bytesFrom f at zero = []
-bytesFrom f at (suc n) = byteAt f at ∷ bytesFrom f (at + 1) n
-
-part-bytes : (f : List ℕ) (at n : ℕ) → at + n ≤ length f → partAt f at n ≡ bytesFrom f at n
-unfolding bytesFrom
-part-bytes f at zero h = refl
-part-bytes f at (suc n) h =
-    let one : suc at ≡ at + 1 = omega arith in
-    ap (take (suc n)) (drop-cons f at 0 (omega arith)) ∙ ap (λ r. byteAt f at ∷ r) (ap (λ i. take n (drop i f)) one ∙ part-bytes f (at + 1) n (omega arith))
-
 -- a number's bytes are those that it was read from
 little-again : (f : List ℕ) (at n : ℕ) → ((i : ℕ) → byteAt f i < 256) → littleBytes n (littleAt f at n) ≡ bytesFrom f at n
 unfolding littleBytes littleAt bytesFrom
