@@ -15,6 +15,8 @@ fn main() {
 
     println!("cargo::rerun-if-env-changed={LIB_DIR}");
     println!("cargo::rerun-if-changed={}", archive.display());
+    // Cargo tells it to the build script of a package that depends on this one.
+    println!("cargo::metadata=lib_dir={}", dir.display());
     if archive.is_file() {
         println!("cargo::rustc-link-search=native={}", dir.display());
         println!("cargo::rustc-link-lib=static=dwarnizza");

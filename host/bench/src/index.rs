@@ -1,5 +1,6 @@
-//! Archive indexes of K 16 and W 4.
+//! Archive indexes of W 4, and of K 16 where nothing else is said.
 
+use dwarnizza_sys::dwarnizza_index_lookup;
 use fuzz::export::{
     ABSENT, ANSWERED, Export, Given, INDEX_BOUND, INDEX_CHECK, INDEX_ENTRY, INDEX_FOOTER,
     INDEX_LIST, INDEX_LISTING, INDEX_LOOKUP, INDEX_LOOSE, INDEX_PAGE, INDEX_SETTINGS, INDEX_WRITE,
@@ -11,7 +12,7 @@ use crate::keys::{Key, Sought, both, by_key};
 use crate::measure::mixed;
 use crate::table::{Call, Table};
 
-/// The settings of all indexes here.
+/// The settings of the indexes here.
 pub const SETTINGS: Settings = Settings {
     version: 1,
     offset_width: 4,
@@ -32,6 +33,7 @@ const FOOTER_HASHED: usize = 20;
 
 /// An index and its list.
 pub struct File {
+    pub settings: Settings,
     pub entries: usize,
     pub list: Vec<u8>,
     pub index: Vec<u8>,
@@ -41,14 +43,24 @@ impl File {
     /// An index of this number of entries, whose keys, sizes and locations are spread by a fixed
     /// rule: the first eight bytes of the keys are evenly apart.
     pub fn new(entries: usize) -> Self {
-        let mut list = Vec::with_capacity(entries * SETTINGS.entry_len());
+        Self::with_keys(SETTINGS.key_len(), entries)
+    }
+
+    /// The same with the first bytes of each key alone, as many as this.
+    pub fn with_keys(key_length: usize, entries: usize) -> Self {
+        let settings = Settings {
+            key_length: key_length as u32,
+            ..SETTINGS
+        };
+        let mut list = Vec::with_capacity(entries * settings.entry_len());
         for number in 0..entries {
-            list.extend(key(number, entries));
+            list.extend(&key(number, entries)[..key_length]);
             list.extend(mixed(number as u64).to_be_bytes());
         }
-        let mut index = vec![0; SETTINGS.file_len(entries)];
-        write(SETTINGS, &list, &mut index).expect("the list may be written");
+        let mut index = vec![0; settings.file_len(entries)];
+        write(settings, &list, &mut index).expect("the list may be written");
         Self {
+            settings,
             entries,
             list,
             index,
@@ -57,7 +69,7 @@ impl File {
 
     /// The pages, each by itself.
     fn pages(&self) -> Vec<&[u8]> {
-        let pages = SETTINGS.pages(self.entries) * PAGE;
+        let pages = self.settings.pages(self.entries) * PAGE;
         self.index[..pages].chunks_exact(PAGE).collect()
     }
 
@@ -82,7 +94,7 @@ impl File {
 
     /// A call that is given the page and the slot of an entry too.
     fn call_of_entry(&self) -> Call<'_> {
-        let (entries, full) = (self.entries as u64, SETTINGS.entries_per_page() as u64);
+        let (entries, full) = (self.entries as u64, self.settings.entries_per_page() as u64);
         Call {
             given: Box::new(move |number| {
                 let entry = mixed(number) % entries;
@@ -94,7 +106,7 @@ impl File {
 
     /// A call that is given a page too.
     fn call_of_page(&self) -> Call<'_> {
-        let pages = SETTINGS.pages(self.entries) as u64;
+        let pages = self.settings.pages(self.entries) as u64;
         Call {
             given: Box::new(move |number| Given::new([&self.index], [mixed(number) % pages])),
             ..self.call(&INDEX_PAGE, vec![self.footer()])
@@ -103,7 +115,12 @@ impl File {
 
     /// A call that is given the list and the settings.
     fn call_of_list<'a>(&'a self, export: &'static Export, hashed: Vec<&'a [u8]>) -> Call<'a> {
-        let settings = [SETTINGS.version, SETTINGS.offset_width, SETTINGS.key_length];
+        let Settings {
+            version,
+            offset_width,
+            key_length,
+        } = self.settings;
+        let settings = [version, offset_width, key_length];
         Call {
             given: Box::new(move |_| Given::new([&self.list], settings.map(u64::from))),
             ..self.call(export, hashed)
@@ -115,6 +132,17 @@ impl File {
 pub fn key(number: usize, entries: usize) -> Key {
     let high = number as u64 * (u64::MAX / entries as u64);
     both(high, mixed(number as u64))
+}
+
+/// The lookup of a key by the library: result and words.
+pub fn lookup(index: &[u8], key: &[u8]) -> (u32, [u64; 8]) {
+    let mut answer = [0; 8];
+    // SAFETY: pointers and lengths are those of slices.
+    let result = unsafe {
+        let (at, key_at) = (index.as_ptr(), key.as_ptr());
+        dwarnizza_index_lookup(at, index.len(), key_at, key.len(), &mut answer)
+    };
+    (result, answer)
 }
 
 /// Prints the lines.

@@ -1,11 +1,13 @@
 //! Keys that are sought.
 
+use std::hint::black_box;
+
 use fuzz::export::{ABSENT, ANSWERED, Given};
 
-use crate::measure::mixed;
+use crate::measure::{Contender, mixed};
 
 /// How many keys are sought, one after the other and then from the first again.
-const COUNT: u64 = 1 << 16;
+pub const COUNT: u64 = 1 << 16;
 
 pub type Key = [u8; 16];
 
@@ -23,11 +25,15 @@ impl Sought {
     /// Random keys of `entries` entries, of which this gives the key of each; or keys that none of
     /// them has.
     pub fn keys(self, entries: usize, key: KeyOfNumber) -> Vec<Key> {
-        let keys = (0..COUNT).map(|number| match self {
+        self.all_keys(entries, key).take(COUNT as usize).collect()
+    }
+
+    /// The same without end.
+    pub fn all_keys(self, entries: usize, key: KeyOfNumber) -> impl Iterator<Item = Key> {
+        (0..).map(move |number| match self {
             Self::Found => key(mixed(number) as usize % entries, entries),
             Self::Absent => both(mixed(number), mixed(!number)),
-        });
-        keys.collect()
+        })
     }
 
     /// The result of a lookup.
@@ -55,4 +61,14 @@ pub fn both(high: u64, low: u64) -> Key {
 /// What the call with a number is given: the file and one of the keys.
 pub fn by_key<'a>(file: &'a [u8], keys: &'a [Key]) -> Box<dyn Fn(u64) -> Given<'a> + 'a> {
     Box::new(move |number| Given::new([file, &keys[(number % COUNT) as usize]], []))
+}
+
+/// Looks one key up after the other.
+pub fn each<'a, A>(keys: &'a [Key], lookup: impl Fn(&Key) -> A + 'a) -> Contender<'a> {
+    let mut keys = keys.iter().cycle();
+    Box::new(move |times| {
+        for key in keys.by_ref().take(times as usize) {
+            black_box(lookup(black_box(key)));
+        }
+    })
 }

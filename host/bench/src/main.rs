@@ -5,6 +5,7 @@
 //! one alone.
 
 mod chain;
+mod compare;
 mod encoding;
 mod envelope;
 mod index;
@@ -19,6 +20,7 @@ mod parsed;
 mod path;
 mod root;
 mod table;
+mod ways;
 mod worklist;
 
 use std::env;
@@ -41,11 +43,13 @@ const PARTS: [Part; 9] = [
     ("worklist", worklist::measure),
 ];
 
-/// A table beside these: paths beside ids, many ids at once, and lookups in parsed forms.
-const TABLES: [(&str, fn()); 3] = [
+/// Tables beside these: paths beside ids, many ids at once, lookups in parsed forms, and keys
+/// compared byte by byte.
+const TABLES: [(&str, fn()); 4] = [
     ("path", path::print),
     ("many", many::print),
     ("parsed", parsed::print),
+    ("compare", compare::print),
 ];
 
 fn main() -> ExitCode {

@@ -1,13 +1,13 @@
 //! Lookups in an index beside the same entries parsed beforehand, for information.
 
 use std::collections::HashMap;
-use std::hint::black_box;
 
 use fuzz::counts::grouped;
+use fuzz::export::ANSWERED;
 
-use crate::index::{File, SEARCHED, SETTINGS, key};
-use crate::keys::{Key, Sought};
-use crate::measure::{Contender, seconds};
+use crate::index::{File, SEARCHED, SETTINGS, key, lookup};
+use crate::keys::{Key, Sought, each};
+use crate::measure::seconds;
 use crate::table::duration;
 
 /// Size and location.
@@ -33,13 +33,8 @@ impl Forms {
     }
 
     fn library(&self, key: &Key) -> Option<Value> {
-        let (index, mut answer) = (&self.file.index, [0; 8]);
-        // SAFETY: pointers and lengths are those of slices.
-        let result = unsafe {
-            let (at, key) = (index.as_ptr(), key.as_ptr());
-            dwarnizza_sys::dwarnizza_index_lookup(at, index.len(), key, 16, &mut answer)
-        };
-        (result == 0).then_some((answer[2] as u32, answer[3] as u32))
+        let (result, words) = lookup(&self.file.index, key);
+        (result == ANSWERED).then_some((words[2] as u32, words[3] as u32))
     }
 
     fn sorted(&self, key: &Key) -> Option<Value> {
@@ -98,14 +93,4 @@ fn print_line(entries: usize) {
         times[1] / times[0],
         times[2] / times[0]
     );
-}
-
-/// Looks one key up after the other.
-fn each<'a>(keys: &'a [Key], lookup: impl Fn(&Key) -> Option<Value> + 'a) -> Contender<'a> {
-    let mut keys = keys.iter().cycle();
-    Box::new(move |times| {
-        for key in keys.by_ref().take(times as usize) {
-            black_box(lookup(black_box(key)));
-        }
-    })
 }
