@@ -218,16 +218,6 @@ module _ {a b : List ℕ} {from at : ℕ} (p : Passed a b from at) where
   unfolding compared
   above-at-end l m = p .rest ∙ rw (drop-cons a at 0 l, drop-of-length-le b m)
 
--- The first bytes decide where they differ. A byte past the end counts as 0.
-pub first-byte-below : (a b : List ℕ) → byteAt a 0 < byteAt b 0 → compared a b ≡ Below
-unfolding compared
-first-byte-below a [] h = absurd (omega arith)
-first-byte-below [] (y ∷ b) h = refl
-first-byte-below (x ∷ a) (y ∷ b) h = first-below a b h
-
-pub first-byte-above : (a b : List ℕ) → byteAt b 0 < byteAt a 0 → compared a b ≡ Above
-first-byte-above a b h = above-of-below b a (first-byte-below b a h)
-
 -- ---- many bytes at once
 
 -- Every element is a byte.
@@ -339,3 +329,8 @@ module _ {a b : List ℕ} {from at : ℕ} (p : Passed a b from at) (u : Bytes a)
         (omega (arith, length-drop at a)) (omega (arith, length-drop at b)) (rw (bigAt-drop a at 8, bigAt-drop b at 8) h)
         ∙ rw (drop-drop 8 at a, drop-drop 8 at b);
   }
+
+  pub differ-eight : (bigAt a at 8 ≡ bigAt b at 8 → ⊥) → sameBytes (drop from a) (drop from b) ≡ false
+  differ-eight h =
+      sym (equal-is-same (drop from a) (drop from b))
+      ∙ by-order (bigAt a at 8) (bigAt b at 8) (λ l. ap isEqual (below-eight l)) (λ e. absurd (h e)) (λ l. ap isEqual (above-eight l))

@@ -1,5 +1,4 @@
 // The order of keys: unsigned bytes from the left.
-use parts::byte;
 use parts::least;
 ghost use mathlib.Core.Path.{_≡_};
 ghost use Prim.Native.Nat.{_+_, _≤_, _<_};
@@ -75,11 +74,11 @@ fn compare_bytes(a: &[u8], b: &[u8], at: usize) -> Order
     }
 }
 
-// How a stands to b: eight bytes at once while both have eight left, then byte by byte.
-fn compare_eights(a: &[u8], b: &[u8]) -> Order
+// How a stands to b, of which both have some bytes: eight at once while eight of those are left, then byte by byte.
+fn compare_eights(a: &[u8], b: &[u8], both: usize) -> Order
+    requires { ⌜ (both ≤ length (now a)) × (both ≤ length (now b)) ⌝ }
     ensures { λ r. ⌜ r ≡ compared (now (a .entry)) (now (b .entry)) ⌝ }
 {
-    let both = least(a.len(), b.len());
     let mut same = 0;
     while 8 <= both - same {
         let x = eight_inside(a, same);
@@ -92,17 +91,15 @@ fn compare_eights(a: &[u8], b: &[u8]) -> Order
     compare_bytes(a, b, same)
 }
 
-// How a stands to b. Where one is the beginning of the other, the shorter is below. The first byte comes before the eights: it
-// tells most keys that stand in no order apart, and takes less time than they.
+// How a stands to b. Where one is the beginning of the other, the shorter is below.
 pub fn compare(a: &[u8], b: &[u8]) -> Order
     ensures { λ r. ⌜ r ≡ compared (now (a .entry)) (now (b .entry)) ⌝ }
 {
-    let x = byte(a, 0);
-    let y = byte(b, 0);
-    if x != y {
-        return if x < y { Order::Below } else { Order::Above };
+    let both = least(a.len(), b.len());
+    if both < 8 {
+        return compare_bytes(a, b, 0);
     }
-    compare_eights(a, b)
+    compare_eights(a, b, both)
 }
 
 // Whether a is below b.
@@ -116,11 +113,21 @@ pub fn rises(a: &[u8], b: &[u8]) -> bool
     }
 }
 
-// Whether two keys are the same.
+// Whether two keys are the same. A loop of its own: the compiler then makes one function of the comparison and `rises`.
 pub fn same(a: &[u8], b: &[u8]) -> bool
     ensures { λ r. ⌜ r ≡ sameBytes (now (a .entry)) (now (b .entry)) ⌝ }
 {
-    match compare(a, b) {
+    if a.len() != b.len() {
+        return false;
+    }
+    let mut at = 0;
+    while 8 <= a.len() - at {
+        if eight_inside(a, at) != eight_inside(b, at) {
+            return false;
+        }
+        at += 8;
+    }
+    match compare_bytes(a, b, at) {
         Order::Below => false,
         Order::Equal => true,
         Order::Above => false,

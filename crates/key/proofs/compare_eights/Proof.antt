@@ -26,7 +26,7 @@ returns : tie.Need-returns Inv-loop μ-loop
 returns c =
     let second = c .before .before in
     let loop = second .before .before .before in
-    let known-b = loop .before .before in
+    let known-b = loop .before in
     let known-a = known-b .before in
     let x = second .before .eight-inside .ensures in
     let y = second .eight-inside2 .ensures in
@@ -37,7 +37,7 @@ returns-2 : tie.Need-returns-2 Inv-loop μ-loop
 returns-2 c =
     let second = c .before .before in
     let loop = second .before .before .before in
-    let known-b = loop .before .before in
+    let known-b = loop .before in
     let known-a = known-b .before in
     let x = second .before .eight-inside .ensures in
     let y = second .eight-inside2 .ensures in
@@ -48,7 +48,7 @@ loop-again : tie.Need-loop-again Inv-loop μ-loop
 loop-again c =
     let second = c .before in
     let loop = second .before .before .before in
-    let known-b = loop .before .before in
+    let known-b = loop .before in
     let known-a = known-b .before in
     let x = second .before .eight-inside .ensures in
     let y = second .eight-inside2 .ensures in (
@@ -66,7 +66,6 @@ compare-eights-spec =
     (tie.spec
     Inv-loop
     μ-loop
-    (λ c κs. search needs)
     loop-holds
     (λ c. search needs)
     eight-inside-requires
