@@ -2,14 +2,13 @@
 //! comparison alone, and lookups in an index.
 
 use std::cmp::Ordering;
-use std::hint::black_box;
 
 use fuzz::counts::grouped;
 use fuzz::export::{Given, INDEX_LOOKUP};
 
 use crate::index::{self, File};
 use crate::keys::{COUNT, Key, Sought, both, each};
-use crate::measure::{Contender, mixed, seconds};
+use crate::measure::{mixed, seconds};
 use crate::table::duration;
 use crate::ways::{BYTES, EIGHTS, Way};
 
@@ -44,63 +43,74 @@ fn print_comparisons() {
         Pairs::after_eight(length).print_line("after eight equal bytes");
     }
     for length in LENGTHS {
-        Pairs::random(length).print_line("random");
+        Pairs::of_lookups(length).print_line("random, as lookups meet them");
     }
     for length in LENGTHS {
-        Pairs::rising(length).print_line("neighbours in a rising list");
+        Pairs::rising(length).print_line("random, each with the next above it");
+    }
+    for length in LENGTHS {
+        Pairs::random(length).print_line("random, in no order");
     }
 }
 
-/// Keys of which pairs are compared.
+/// Pairs of keys that are compared.
 struct Pairs {
-    keys: Vec<Key>,
     length: usize,
-    /// How much further apart the keys of a pair are each time round, so that no predictor learns
-    /// what the comparisons say.
-    further: u64,
+    pairs: Vec<[Key; 2]>,
 }
 
 impl Pairs {
-    /// Random keys, but for the first eight bytes.
-    fn new(length: usize, high: impl Fn(u64) -> u64) -> Self {
-        let keys = (0..COUNT).map(|number| both(high(number), mixed(!number)));
+    fn new(length: usize, pairs: impl Iterator<Item = [Key; 2]>) -> Self {
         Self {
-            keys: keys.collect(),
             length,
-            further: 1,
+            pairs: pairs.take(COUNT as usize).collect(),
         }
     }
 
+    /// Keys that have the first eight bytes in common.
     fn after_eight(length: usize) -> Self {
-        Self::new(length, |_| mixed(0))
+        let key = |number: u64| both(mixed(0), mixed(!number));
+        Self::new(length, (0..).map(|number| [number, number + 1].map(key)))
     }
 
+    /// Keys that have nothing in common.
     fn random(length: usize) -> Self {
-        Self::new(length, mixed)
-    }
-
-    /// Each key beside the next above it. There are 256 keys of one byte, which come over and over.
-    fn rising(length: usize) -> Self {
-        let mut keys = Self::random(length).keys;
-        keys.sort_unstable();
-        keys.dedup_by_key(|key| key[..length].to_vec());
-        Self {
-            keys: keys.into_iter().cycle().take(COUNT as usize).collect(),
+        Self::new(
             length,
-            further: 0,
-        }
+            (0..).map(|number| [number, number + 1].map(random_key)),
+        )
     }
 
-    /// The key with a number and the one so far behind it.
-    fn pair(&self, number: u64, apart: u64) -> [&[u8]; 2] {
-        let numbers = [number, number + apart];
-        numbers.map(|number| &self.keys[(number % COUNT) as usize][..self.length])
+    /// Each key of a rising list and the next.
+    fn rising(length: usize) -> Self {
+        let keys = rising_keys(length);
+        let next = keys.clone().into_iter().skip(1);
+        Self::new(
+            length,
+            keys.into_iter().zip(next).map(<[_; 2]>::from).cycle(),
+        )
     }
 
-    /// Sees that both comparisons of each key and the next say what Rust does.
+    /// Sought keys, each with the keys of a rising list that the halving rule compares.
+    fn of_lookups(length: usize) -> Self {
+        let keys = rising_keys(length);
+        let sought = (COUNT..).map(random_key);
+        let ways = sought.flat_map(|sought| {
+            let compared = halving_way(&keys, &sought, length);
+            compared.into_iter().map(move |stored| [stored, sought])
+        });
+        Self::new(length, ways)
+    }
+
+    /// A pair as it is compared.
+    fn cut<'a>(&self, pair: &'a [Key; 2]) -> [&'a [u8]; 2] {
+        pair.each_ref().map(|key| &key[..self.length])
+    }
+
+    /// Sees that both comparisons say what Rust does.
     fn try_out(&self) {
-        for number in 0..COUNT {
-            let [a, b] = self.pair(number, 1);
+        for pair in &self.pairs {
+            let [a, b] = self.cut(pair);
             let said = match a.cmp(b) {
                 Ordering::Less => 0,
                 Ordering::Equal => 1,
@@ -110,36 +120,50 @@ impl Pairs {
         }
     }
 
-    /// Compares pairs. What one comparison says decides which keys the next is of, as in a lookup.
-    fn walk(&self, way: Way) -> Contender<'_> {
-        let (mut number, mut apart) = (0, 1);
-        Box::new(move |times| {
-            for _ in 0..times {
-                let [a, b] = self.pair(number, apart);
-                number += 1 + u64::from(way.compare(a, b));
-                if COUNT <= number {
-                    number -= COUNT;
-                    apart += self.further;
-                }
-            }
-            black_box(number);
-        })
-    }
-
     /// Times both comparisons and prints their line.
     fn print_line(&self, kind: &str) {
         self.try_out();
-        let times = seconds(&mut [BYTES, EIGHTS].map(|way| self.walk(way)));
+        let by = |way: Way| {
+            each(&self.pairs, move |pair| {
+                let [a, b] = self.cut(pair);
+                way.compare(a, b)
+            })
+        };
+        let times = seconds(&mut [by(BYTES), by(EIGHTS)]);
         print_times(&format!("K {}, {kind}", self.length), &times);
     }
 }
 
+/// The key with a number, of keys that have nothing in common.
+fn random_key(number: u64) -> Key {
+    both(mixed(number), mixed(!number))
+}
+
+/// Random keys, of which the first `length` bytes rise strictly. There are 256 keys of one byte.
+fn rising_keys(length: usize) -> Vec<Key> {
+    let mut keys: Vec<_> = (0..COUNT).map(random_key).collect();
+    keys.sort_unstable();
+    keys.dedup_by_key(|key| key[..length].to_vec());
+    keys
+}
+
+/// The keys that the halving rule compares with a sought one.
+fn halving_way(keys: &[Key], sought: &Key, length: usize) -> Vec<Key> {
+    let (mut left, mut compared) = (keys, Vec::new());
+    while !left.is_empty() {
+        let (before, after) = left.split_at(left.len() / 2);
+        let middle = after[0];
+        compared.push(middle);
+        let below = middle[..length] < sought[..length];
+        left = if below { &after[1..] } else { before };
+    }
+    compared
+}
+
 fn print_lookups() {
     println!();
-    println!(
-        "| Lookup | Before | Eight at once | Library | Eight at once / before | Library / before |"
-    );
-    println!("|---|---|---|---|---|---|");
+    println!("| Lookup | Byte by byte | Eight at once | Ratio |");
+    println!("|---|---|---|---|");
     for (length, entries) in SEARCHED {
         let file = File::with_keys(length, entries);
         for sought in [Sought::Found, Sought::Absent] {
@@ -148,7 +172,7 @@ fn print_lookups() {
     }
 }
 
-/// Times the lookups of keys and prints their line, after seeing that all of them say the same.
+/// Times the lookups of keys and prints their line, after seeing that both say what the library does.
 fn print_lookup(file: &File, sought: Sought) {
     let (index, length) = (&file.index, file.settings.key_len());
     let keys = sought_in(file, sought);
@@ -162,8 +186,7 @@ fn print_lookup(file: &File, sought: Sought) {
         );
     }
     let by = |way: Way| each(&keys, move |key| way.lookup(index, &key[..length]));
-    let library = each(&keys, |key| index::lookup(index, &key[..length]));
-    let times = seconds(&mut [by(BYTES), by(EIGHTS), library]);
+    let times = seconds(&mut [by(BYTES), by(EIGHTS)]);
     let entries = grouped(file.entries as u64);
     let kind = sought.kind();
     print_times(&format!("K {length}, {entries} entries{kind}"), &times);
@@ -180,12 +203,13 @@ fn sought_in(file: &File, sought: Sought) -> Vec<Key> {
     fitting.take(COUNT as usize).collect()
 }
 
-/// Prints a line with the times, and the first against each of the others.
+/// Prints a line with both times and their ratio.
 fn print_times(name: &str, times: &[f64]) {
-    let shown = times.iter().map(|&time| duration(time));
-    let ratios = times[1..]
-        .iter()
-        .map(|time| format!("{:.2}", times[0] / time));
-    let cells: Vec<_> = shown.chain(ratios).collect();
-    println!("| {name} | {} |", cells.join(" | "));
+    let [bytes, eights] = [times[0], times[1]];
+    println!(
+        "| {name} | {} | {} | {:.2} |",
+        duration(bytes),
+        duration(eights),
+        bytes / eights
+    );
 }

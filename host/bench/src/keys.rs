@@ -63,12 +63,12 @@ pub fn by_key<'a>(file: &'a [u8], keys: &'a [Key]) -> Box<dyn Fn(u64) -> Given<'
     Box::new(move |number| Given::new([file, &keys[(number % COUNT) as usize]], []))
 }
 
-/// Looks one key up after the other.
-pub fn each<'a, A>(keys: &'a [Key], lookup: impl Fn(&Key) -> A + 'a) -> Contender<'a> {
+/// Looks one key up after the other, or compares one pair of them after the other.
+pub fn each<'a, T, A>(keys: &'a [T], call: impl Fn(&T) -> A + 'a) -> Contender<'a> {
     let mut keys = keys.iter().cycle();
     Box::new(move |times| {
         for key in keys.by_ref().take(times as usize) {
-            black_box(lookup(black_box(key)));
+            black_box(call(black_box(key)));
         }
     })
 }
