@@ -216,6 +216,46 @@ fn keys_are_compared_whole_and_unsigned() {
     }
 }
 
+/// A list whose keys have one of sixteen beginnings of eight bytes, so that these tell few of them
+/// apart.
+fn list_of_few_beginnings(random: &mut Random, settings: Settings, entries: usize) -> Vec<u8> {
+    let mut list = random_list(random, settings, entries);
+    let mut entries: Vec<_> = list.chunks_mut(settings.entry_len()).collect();
+    for entry in &mut entries {
+        entry[..8].fill(0x77 + random.up_to(15) as u8);
+    }
+    entries.sort_unstable();
+    entries.dedup_by(|a, b| a[..settings.key_len()] == b[..settings.key_len()]);
+    entries.concat()
+}
+
+/// Many keys with the same first eight bytes, in order and in none.
+#[test]
+fn keys_that_share_their_first_eight_bytes() {
+    let mut random = Random::of_test();
+    for key_length in 9..=16 {
+        let settings = settings(key_length, 4);
+        let entries = 9 * settings.entries_per_page();
+        let list = list_of_few_beginnings(&mut random, settings, entries);
+        let mut file = IndexFile::new(settings, &list);
+        let keys: Vec<_> = list
+            .chunks(settings.entry_len())
+            .map(|entry| &entry[..settings.key_len()])
+            .collect();
+        for key in &keys {
+            assert!(compare_checked(&file.bytes, key).found().is_some());
+            compare_checked(&file.bytes, &beside(key, 1));
+        }
+        for number in 0..keys.len() {
+            let other = random.up_to(keys.len() - 1);
+            file.key(number).copy_from_slice(keys[other]);
+        }
+        for key in keys {
+            compare(&file.bytes, key).expect("the index opens");
+        }
+    }
+}
+
 /// The bound goes by a full page's entry count, also where no page is full.
 #[test]
 fn the_bound() {
