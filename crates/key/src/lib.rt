@@ -1,5 +1,4 @@
 // The order of keys: unsigned bytes from the left.
-use parts::least;
 ghost use mathlib.Core.Path.{_≡_};
 ghost use Prim.Native.Nat.{_+_, _≤_, _<_};
 ghost use lib.ListN.{length, drop};
@@ -74,13 +73,16 @@ fn compare_bytes(a: &[u8], b: &[u8], at: usize) -> Order
     }
 }
 
-// How a stands to b, of which both have some bytes: eight at once while eight of those are left, then byte by byte.
-fn compare_eights(a: &[u8], b: &[u8], both: usize) -> Order
-    requires { ⌜ (both ≤ length (now a)) × (both ≤ length (now b)) ⌝ }
+// How a stands to b. Where one is the beginning of the other, the shorter is below. Eight bytes at once while both have eight left,
+// then byte by byte.
+pub fn compare(a: &[u8], b: &[u8]) -> Order
     ensures { λ r. ⌜ r ≡ compared (now (a .entry)) (now (b .entry)) ⌝ }
 {
     let mut same = 0;
-    while 8 <= both - same {
+    while 8 <= a.len() - same {
+        if b.len() - same < 8 {
+            return compare_bytes(a, b, same);
+        }
         let x = eight_inside(a, same);
         let y = eight_inside(b, same);
         if x != y {
@@ -89,17 +91,6 @@ fn compare_eights(a: &[u8], b: &[u8], both: usize) -> Order
         same += 8;
     }
     compare_bytes(a, b, same)
-}
-
-// How a stands to b. Where one is the beginning of the other, the shorter is below.
-pub fn compare(a: &[u8], b: &[u8]) -> Order
-    ensures { λ r. ⌜ r ≡ compared (now (a .entry)) (now (b .entry)) ⌝ }
-{
-    let both = least(a.len(), b.len());
-    if both < 8 {
-        return compare_bytes(a, b, 0);
-    }
-    compare_eights(a, b, both)
 }
 
 // Whether a is below b.
