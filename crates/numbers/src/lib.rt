@@ -1,3 +1,5 @@
+#![tactic(auto)]
+
 // Numbers at an offset of lent bytes. Every offset and every width is answered for: a byte past the end reads as 0.
 ghost use Rattle.std.specs.Prelude.{◌≡◌, ℕ, ◌+◌, ◌-◌, ◌≤◌, ◌<◌, min, length, get_or};
 ghost use Rattle.parts.specs.Part.{byte_at};

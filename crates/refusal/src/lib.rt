@@ -1,3 +1,5 @@
+#![tactic(auto)]
+
 // Refusals: the numbers of rule N1, each under one name, and the answer of a check.
 // specs/Number.antt has the same names, in lower case with a hyphen for each underscore.
 ghost use Rattle.std.specs.Prelude.{◌≡◌};
@@ -110,21 +112,21 @@ pub const PATH_LENGTH: u32 = 110;
 pub const LIST_FALLS: u32 = 161;
 
 // What a refusal gives: its number, and its place (0 where rule N1 names none).
-#[derive(Drop)]
+#[derive(Clone, Copy)]
 pub struct Refusal {
     pub number: u32,
     pub place: usize,
 }
 
 // What a check answers. specs/Check.antt has the meaning of each case.
-#[derive(Drop)]
+#[derive(Clone, Copy)]
 pub enum Verdict {
     Passed,
     Refused(Refusal),
 }
 
 // What a call that writes answers: how many bytes, or a refusal. specs/Outcome.antt has the meaning of each case.
-#[derive(Drop)]
+#[derive(Clone, Copy)]
 pub enum Written {
     Bytes(usize),
     Refused(Refusal),

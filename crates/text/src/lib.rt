@@ -1,3 +1,5 @@
+#![tactic(auto)]
+
 // Text as bytes, put into output from a place on. Each function tells the place after its text, at most the greatest `usize`,
 // which no output reaches; bytes that do not fit are dropped.
 ghost use Rattle.std.specs.Prelude.{◌≡◌, ◌++◌, ◌+◌, ◌<◌, length};

@@ -1,0 +1,18 @@
+-- `numbers::little` meets its contract: the padded bytes agree with those at the offset.
+use Prim.Native.Nat.{min}
+use native.Mathlib.Nat.{zero-add}
+use native.Mathlib.Omega.{arith}
+use borrow.Author.Rules.{rules}
+use Rattle.numbers.proofs.Laws.{little_at-agree}
+use Rattle.numbers.proofs.little.Goals as goal
+
+pub returns-then-w-rest : goal.returns-then-w-rest
+returns-then-w-rest c = cc
+
+pub returns : goal.returns
+returns c =
+    let a = c.args in
+    let near = c.padded-near in
+    cc
+    (little_at-agree near.result a.s.now 0 a.at (min a.width 8)
+    (λ i l. rw zero-add (near.ensures i (omega arith))))

@@ -1,0 +1,17 @@
+-- `text::put_decimal`: the digits so far, after those of the rest.
+use mathlib.Core.Path.{◌≡◌, refl, sym}
+use mathlib.Core.List.{◌++◌, append-nil}
+use Prim.Native.Nat.{◌+◌, ◌^◌, ◌<◌}
+use native.Mathlib.Omega.{arith}
+use lib.ListN.{length, drop, length-set}
+use borrow.Author.Rules.{rules}
+use Rattle.text.specs.Text.{decimal_digits, decimal}
+use Rattle.text.proofs.TextLaws.{digit-turn, digit-last, two-left, tenth-fits}
+use Rattle.text.proofs.put_decimal.Given as goal
+
+abbrev pub invariant-loop-rest : goal.invariant-loop-rest
+invariant-loop-rest l =
+    (l.first < 20) × (length l.digits ≡ 20) × (l.rest < 10 ^ (l.first + 1)) × (decimal l.n ≡ decimal_digits (l.first + 1) l.rest ++ drop (l.first + 1) l.digits)
+
+abbrev pub decreases-loop-rest : goal.decreases-loop-rest
+decreases-loop-rest l = l.first
