@@ -1,3 +1,5 @@
+#![tactic(auto)]
+
 // One block of RFC 1321: sixty-four steps over sixteen words.
 ghost use Rattle.std.specs.Prelude.{◌≡◌, ◌+◌, ◌*◌, ◌/◌, ◌%◌, ◌<◌, ◌≤◌, length, drop, slice_index};
 ghost use Rattle.md5_block.specs.Block as spec;
@@ -6,7 +8,7 @@ use parts::copy;
 use std::num::wrapping_add_u32;
 
 // A, B, C and D of RFC 1321.
-#[derive(Drop)]
+#[derive(Clone, Copy)]
 pub struct Words {
     pub a: u32,
     pub b: u32,

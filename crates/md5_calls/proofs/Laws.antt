@@ -7,9 +7,9 @@ use native.Mathlib.Omega.{arith}
 use lib.ListN.{length, take, drop, length-take, length-drop, take-append-drop, replicate}
 use lib.Seq.{take-add, take-append_seam, take_all}
 use Rattle.parts.specs.Part.{part_at}
-use Rattle.md5.specs.declared.Md5.{Md5}
-use Rattle.md5.specs.Message.{fresh, state_after, updated, absorbed, is_too_long, finished, md5, digest_or0}
-use Rattle.md5.proofs.Cutting.{state-more, state-end, fresh-is}
+use Rattle.md5_digest.specs.declared.Md5.{Md5}
+use Rattle.md5_digest.specs.Message.{fresh, state_after, updated, absorbed, is_too_long, finished, md5, digest_or0}
+use Rattle.md5_digest.proofs.Cutting.{state-more, state-end, fresh-is}
 use Rattle.md5_calls.specs.Sofar.{Sofar}
 
 -- a state of the first k bytes, or of all where there are fewer

@@ -1,11 +1,13 @@
+#![tactic(auto)]
+
 // A message that is hashed part by part, as a list of lengths cuts it. That its digest is that of the whole is what the function
 // ensures, so that it rests on the contracts of the methods of `Md5`.
 ghost use Rattle.std.specs.Prelude.{◌≡◌, length};
 ghost use Rattle.refusal.specs.Check.{check_of};
-ghost use Rattle.md5.specs.Message as md5;
+ghost use Rattle.md5_digest.specs.Message as md5;
 ghost use Rattle.md5_calls.specs.Sofar.{Sofar};
 
-use md5::{Hashed, Md5};
+use md5_digest::{Hashed, Md5};
 use parts::part;
 use refusal::Verdict;
 

@@ -1,3 +1,5 @@
+#![tactic(auto)]
+
 // The end of a message of RFC 1321: what is left after its whole blocks, the padding, and the digest's bytes.
 ghost use Rattle.std.specs.Prelude.{◌≡◌, ◌++◌, ◌∷◌, ◌+◌, ◌*◌, ◌^◌, length, take, replicate};
 ghost use Rattle.parts.specs.Part.{overlay};

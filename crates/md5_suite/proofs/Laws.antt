@@ -6,11 +6,11 @@ use native.Mathlib.Numerals.{add-one}
 use native.Mathlib.Omega.{arith}
 use lib.ListN.{length, take, drop, set, replicate, length-drop, length-replicate}
 use lib.Seq.{take-suc-set, take-add, length-take-le}
-use Rattle.md5.specs.declared.Md5.{Md5}
-use Rattle.md5.specs.declared.Updated.{Updated}
-use Rattle.md5.specs.Message.{state_after}
-use Rattle.md5.specs.Cutting.{Updates}
-use Rattle.md5.proofs.Cutting.{below}
+use Rattle.md5_digest.specs.declared.Md5.{Md5}
+use Rattle.md5_digest.specs.declared.Updated.{Updated}
+use Rattle.md5_digest.specs.Message.{state_after}
+use Rattle.md5_digest.specs.Cutting.{Updates}
+use Rattle.md5_digest.proofs.Cutting.{below}
 use Rattle.md5_suite.specs.Suite.{data_byte, data_of}
 
 pub zeros-length : (n : ℕ) → n ≡ length (replicate {A = ℕ} n 0)

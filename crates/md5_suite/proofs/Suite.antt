@@ -3,7 +3,7 @@ use mathlib.Core.Path.{◌≡◌, refl}
 use mathlib.Core.List.{List, [], ◌∷◌, ◌++◌, map, reverse}
 use Prim.Native.Nat.{ℕ, zero, suc, ◌+◌}
 use Rattle.md5_block.specs.Block.{addends, shifts, mixed, word_number, turned, step, steps, word, words_of, sum, block, blocks}
-use Rattle.md5.specs.Message.{little_bytes, padding, initial, digest_of, md5}
+use Rattle.md5_digest.specs.Message.{little_bytes, padding, initial, digest_of, md5}
 
 -- n characters from c on, in the order of their codes
 abbrev run : ℕ → ℕ → List ℕ

@@ -1,10 +1,14 @@
+#![tactic(auto)]
+
 // Prints MD5 digests for a comparison: of the strings of RFC 1321's suite, of data of many lengths in one call, and of data
 // that comes in parts. One digest to a line.
 ghost use Rattle.std.specs.Prelude.{◌≡◌, ◌^◌, ◌≤◌, ◌<◌, min, length, take};
 ghost use Rattle.text.specs.Text.{hex as Text·hex};
-ghost use Rattle.md5.specs.Message.{md5 as Message·md5};
+ghost use Rattle.md5_digest.specs.Message.{md5 as Message·md5};
 ghost use Rattle.md5_suite.specs.Suite.{data_byte, data_of};
 
+use std::io;
+use std::io::Write;
 use text::put_hex;
 
 fn least(a: usize, b: usize) -> usize
@@ -46,7 +50,7 @@ fn in_one_call(s: &[u8]) -> [u8; 16]
     requires { length s.now ≤ 2 ^ 48 }
     ensures { result ≡ Message·md5 s.now }
 {
-    let hashed = md5::digest(s);
+    let hashed = md5_digest::digest(s);
     hashed.bytes
 }
 
@@ -63,7 +67,7 @@ fn in_parts(s: &[u8], size: usize) -> [u8; 16]
     requires { (length s.now ≤ 2 ^ 48) × (0 < size) }
     ensures { result ≡ Message·md5 s.now }
 {
-    let mut state = md5::Md5::new();
+    let mut state = md5_digest::Md5::new();
     let mut at = 0;
     while at < s.len() {
         let end = at + least(size, s.len() - at);
@@ -74,92 +78,97 @@ fn in_parts(s: &[u8], size: usize) -> [u8; 16]
     state.finish()
 }
 
-fn put(text: &[u8]) {
-    io::write_all(libc::STDOUT_FILENO, text);
+fn put(out: &mut impl Write, text: &[u8]) -> io::Result<()> {
+    out.write_all(text)
 }
 
-fn put_number(n: usize) {
-    io::print_decimal(libc::STDOUT_FILENO, n as u64);
+fn put_number(out: &mut impl Write, n: usize) -> io::Result<()> {
+    write!(out, "{n}")
 }
 
-fn put_digest(digest: [u8; 16]) {
+fn put_digest(out: &mut impl Write, digest: [u8; 16]) -> io::Result<()> {
     let text = hex(&digest);
-    put(&text);
-    put(b"\n");
+    put(out, &text)?;
+    put(out, b"\n")
 }
 
-fn string_line(s: &[u8])
+fn string_line(out: &mut impl Write, s: &[u8]) -> io::Result<()>
     requires { length s.now ≤ 2 ^ 48 }
 {
-    put(b"MD5 (\"");
-    put(s);
-    put(b"\") = ");
-    put_digest(in_one_call(s));
+    put(out, b"MD5 (\"")?;
+    put(out, s)?;
+    put(out, b"\") = ")?;
+    put_digest(out, in_one_call(s))
 }
 
-fn length_line(s: &[u8])
+fn length_line(out: &mut impl Write, s: &[u8]) -> io::Result<()>
     requires { length s.now ≤ 2 ^ 48 }
 {
-    put_number(s.len());
-    put(b" ");
-    put_digest(in_one_call(s));
+    put_number(out, s.len())?;
+    put(out, b" ")?;
+    put_digest(out, in_one_call(s))
 }
 
-fn parts_line(s: &[u8], size: usize)
+fn parts_line(out: &mut impl Write, s: &[u8], size: usize) -> io::Result<()>
     requires { (length s.now ≤ 2 ^ 48) × (0 < size) }
 {
-    put_number(s.len());
-    put(b" by ");
-    put_number(size);
-    put(b" ");
-    put_digest(in_parts(s, size));
+    put_number(out, s.len())?;
+    put(out, b" by ")?;
+    put_number(out, size)?;
+    put(out, b" ")?;
+    put_digest(out, in_parts(s, size))
 }
 
-fn strings() {
-    string_line(b"");
-    string_line(b"a");
-    string_line(b"abc");
-    string_line(b"message digest");
-    string_line(b"abcdefghijklmnopqrstuvwxyz");
-    string_line(b"ABCDEFGHIJKLMNOPQRSTUVWXYZabcdefghijklmnopqrstuvwxyz0123456789");
+fn strings(out: &mut impl Write) -> io::Result<()> {
+    string_line(out, b"")?;
+    string_line(out, b"a")?;
+    string_line(out, b"abc")?;
+    string_line(out, b"message digest")?;
+    string_line(out, b"abcdefghijklmnopqrstuvwxyz")?;
     string_line(
+        out,
+        b"ABCDEFGHIJKLMNOPQRSTUVWXYZabcdefghijklmnopqrstuvwxyz0123456789",
+    )?;
+    string_line(
+        out,
         b"12345678901234567890123456789012345678901234567890123456789012345678901234567890",
-    );
+    )
 }
 
 // The lengths 0 to 200.
-fn short_lengths(s: &[u8])
+fn short_lengths(out: &mut impl Write, s: &[u8]) -> io::Result<()>
     requires { 200 ≤ length s.now }
 {
     let mut n = 0;
     while n <= 200 {
-        length_line(first(s, n));
+        length_line(out, first(s, n))?;
         n += 1;
     }
+    Ok(())
 }
 
-fn part_sizes(s: &[u8])
+fn part_sizes(out: &mut impl Write, s: &[u8]) -> io::Result<()>
     requires { length s.now ≤ 2 ^ 48 }
 {
-    parts_line(s, 1);
-    parts_line(s, 63);
-    parts_line(s, 64);
-    parts_line(s, 65);
-    parts_line(s, 1000);
+    parts_line(out, s, 1)?;
+    parts_line(out, s, 63)?;
+    parts_line(out, s, 64)?;
+    parts_line(out, s, 65)?;
+    parts_line(out, s, 1000)
 }
 
-fn lengths(s: &[u8])
+fn lengths(out: &mut impl Write, s: &[u8]) -> io::Result<()>
     requires { length s.now ≡ 1000000 }
 {
-    short_lengths(s);
-    length_line(first(s, 1000));
-    length_line(first(s, 4096));
-    length_line(first(s, 65536));
-    length_line(s);
-    part_sizes(first(s, 1000));
-    part_sizes(first(s, 4096));
-    part_sizes(first(s, 65536));
-    part_sizes(s);
+    short_lengths(out, s)?;
+    length_line(out, first(s, 1000))?;
+    length_line(out, first(s, 4096))?;
+    length_line(out, first(s, 65536))?;
+    length_line(out, s)?;
+    part_sizes(out, first(s, 1000))?;
+    part_sizes(out, first(s, 4096))?;
+    part_sizes(out, first(s, 65536))?;
+    part_sizes(out, s)
 }
 
 // Room for the data.
@@ -169,9 +178,10 @@ fn room() -> [u8; 1_000_000]
     [0; 1_000_000]
 }
 
-fn main() {
-    strings();
+fn main(rt: HostRuntime) -> io::Result<()> {
+    let mut out = io::writer(&rt);
+    strings(&mut out)?;
     let mut data = room();
     fill(&mut data);
-    lengths(&data);
+    lengths(&mut out, &data)
 }

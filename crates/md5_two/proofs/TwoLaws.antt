@@ -9,12 +9,12 @@ use Rattle.refusal.specs.Check.{check_of, silent, refused_if}
 use Rattle.md5_block.specs.declared.Words.{Words}
 use Rattle.md5_block.specs.Block.{addends, steps, words_of, sum, block, blocks, whole}
 use Rattle.md5_block.proofs.BlockLaws.{all-steps, block-is, whole-one}
-use Rattle.md5.specs.declared.FirstEight.{FirstEight}
-use Rattle.md5.specs.declared.Hashed.{Hashed}
+use Rattle.md5_digest.specs.declared.FirstEight.{FirstEight}
+use Rattle.md5_digest.specs.declared.Hashed.{Hashed}
 use Rattle.md5_end.specs.End.{padded, zeros, rest}
 use Rattle.md5_end.proofs.EndLaws.{little-length, rest-length, whole-rest}
-use Rattle.md5.proofs.MessageLaws.{waiting-zeros}
-use Rattle.md5.specs.Message.{initial, padding, digest_of, md5, is_too_long, limited, digest_or0}
+use Rattle.md5_digest.proofs.MessageLaws.{waiting-zeros}
+use Rattle.md5_digest.specs.Message.{initial, padding, digest_of, md5, is_too_long, limited, digest_or0}
 use Rattle.md5_two.specs.declared.Two.{Two}
 use Rattle.md5_two.specs.Two.{FirstEightOf, both, steps_two, block_two, whole_two}
 

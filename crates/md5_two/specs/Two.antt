@@ -2,8 +2,8 @@
 use Rattle.std.specs.Prelude.{◌≡◌, List, ℕ, length, take}
 use Rattle.md5_block.specs.declared.Words.{Words}
 use Rattle.md5_block.specs.Block.{steps, block, whole}
-use Rattle.md5.specs.declared.FirstEight.{FirstEight}
-use Rattle.md5.specs.Message.{limited, digest_or0}
+use Rattle.md5_digest.specs.declared.FirstEight.{FirstEight}
+use Rattle.md5_digest.specs.Message.{limited, digest_or0}
 use Rattle.refusal.specs.Check.{check_of}
 use Rattle.md5_two.specs.declared.Two.{Two}
 

@@ -1,25 +1,27 @@
+#![tactic(auto)]
+
 // Two messages hashed at once, a block of each at a time. A step of MD5 waits for the step before it,
 // but not for those of the other message, so that two blocks in turn take little longer than one.
 ghost use Rattle.std.specs.Prelude.{◌≡◌, ◌++◌, ◌*◌, ◌%◌, length, take};
 ghost use Rattle.refusal.specs.Check.{check_of, silent};
 ghost use Rattle.md5_block.specs.Block.{addends, whole};
-ghost use Rattle.md5.specs.Message.{initial, padding, digest_of, limited, digest_or0};
+ghost use Rattle.md5_digest.specs.Message.{initial, padding, digest_of, limited, digest_or0};
 ghost use Rattle.md5_two.specs.Two as spec;
 
-use md5::{FirstEight, Hashed, digest, first_eight, within_limit};
 use md5_block::{Words, addends, block_words, four, sum};
+use md5_digest::{FirstEight, Hashed, digest, first_eight, within_limit};
 use md5_end::{bytes, eight, end, initial, last_words};
 use refusal::Verdict;
 
 // The words of two messages.
-#[derive(Drop)]
+#[derive(Clone, Copy)]
 pub struct Two {
     pub first: Words,
     pub second: Words,
 }
 
 // The first eight bytes of two digests.
-#[derive(Drop)]
+#[derive(Clone, Copy)]
 pub struct TwoFirstEights {
     pub first: FirstEight,
     pub second: FirstEight,
@@ -84,7 +86,7 @@ fn blocks_two(w: Two, s: &[u8], t: &[u8], k: &[u32; 64]) -> Two
 }
 
 // Two messages of one length in whole blocks, to their end: they have the same padding. Its block is hashed here and not by
-// `md5::end`: with a second call of it `block_two` stays a function by itself, which is quicker.
+// `md5_digest::end`: with a second call of it `block_two` stays a function by itself, which is quicker.
 fn together(a: &[u8], b: &[u8]) -> Two
     requires { (length a.now ≡ length b.now) × (length a.now % 64 ≡ 0) }
     ensures first_value { result.first ≡ whole addends (a.now ++ padding (length a.now)) initial }
@@ -142,7 +144,7 @@ pub fn first_eight_of_two(a: &[u8], b: &[u8]) -> TwoFirstEights
 }
 
 // The digests of two messages.
-#[derive(Drop)]
+#[derive(Clone, Copy)]
 pub struct TwoHashed {
     pub first: Hashed,
     pub second: Hashed,
