@@ -14,7 +14,7 @@ use borrow.Author.Tests.{ne_eqb, ltb-true, ltb-false}
 use Rattle.parts.proofs.Laws.{by-test}
 use Rattle.halving.specs.declared.Halved.{Halved}
 use Rattle.halving.specs.Halving.{halved_once, halving, halved_from, halve, least_or, digits_from, binary_digits}
-use Rattle.halving.specs.Claims.{Least, First, Rising, HalvingFindsFirst, DigitsAreLeast}
+use Rattle.halving.specs.Claims.{Least, First, HalvingFindsFirst, DigitsAreLeast}
 
 pub true-or-false : {b : Bool} → b ≡ true → b ≡ false → ⊥
 true-or-false t f = let z : ◌≡◌ {A = ℕ} 0 1 = cc in omega arith

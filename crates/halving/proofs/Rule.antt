@@ -1,9 +1,8 @@
 -- The definition with turns follows the halving rule.
 use mathlib.Core.Path.{◌≡◌, ◌∙◌}
 use mathlib.Core.Bool.{Bool}
-use Prim.Native.Nat.{ℕ, zero, suc, ◌+◌, ◌-◌, ◌/◌, ◌<◌, ◌≤◌}
+use Prim.Native.Nat.{ℕ, zero, suc, ◌+◌, ◌<◌}
 use native.Mathlib.Omega.{arith}
-use Rattle.halving.specs.declared.Halved.{Halved}
 use Rattle.halving.specs.Halving.{halving, halved_from}
 use Rattle.halving.specs.Claims.{HalvingFollowsRule}
 use Rattle.halving.proofs.Laws.{any-turns, stop-at-none, go-after, go-before}

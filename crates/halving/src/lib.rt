@@ -1,3 +1,5 @@
+#![tactic(auto)]
+
 // The halving rule over keys that lie in lent bytes, and the binary digits of a number.
 ghost use Rattle.std.specs.Prelude.{◌≡◌, Bool, cond, ℕ, ◌+◌, ◌≤◌};
 ghost use Rattle.halving.specs.Halving as spec;
@@ -7,14 +9,14 @@ use key::{eight, rises};
 use parts::part;
 
 // Where the halving ends, and how many keys it compared.
-#[derive(Drop)]
+#[derive(Clone, Copy)]
 pub struct Halved {
     pub place: u32,
     pub count: u32,
 }
 
 // The keys that are left to halve over, and how many were compared.
-#[derive(Drop)]
+#[derive(Clone, Copy)]
 struct Range {
     start: u32,
     left: u32,
@@ -22,7 +24,7 @@ struct Range {
 }
 
 // The first eight bytes of a range's middle key, and of the middle keys of the two ranges that may come next.
-#[derive(Drop)]
+#[derive(Clone, Copy)]
 struct Fronts {
     middle: u64,
     before: u64,

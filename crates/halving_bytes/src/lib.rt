@@ -1,3 +1,5 @@
+#![tactic(auto)]
+
 // The halving by keys compared byte by byte, kept for the benchmark, which times it beside that of the library.
 ghost use Rattle.std.specs.Prelude.{◌≡◌};
 ghost use Rattle.halving.specs.Halving as spec;
@@ -9,7 +11,7 @@ use parts::part;
 
 // Where a halving ends, and how many keys it compared, as C reads them.
 #[repr(C)]
-#[derive(Drop)]
+#[derive(Clone, Copy)]
 pub struct Place {
     pub place: u32,
     pub count: u32,

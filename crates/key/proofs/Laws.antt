@@ -2,7 +2,7 @@
 use mathlib.Core.Path.{◌≡◌, refl, sym, ap, ap₂, ◌∙◌}
 use mathlib.Core.Bool.{Bool, true, false}
 use mathlib.Core.List.{List, [], ◌∷◌, ◌++◌}
-use Prim.Native.Nat.{ℕ, zero, suc, ◌+◌, ◌-◌, ◌*◌, ◌^◌, ◌≤◌, ◌<◌}
+use Prim.Native.Nat.{ℕ, zero, suc, ◌+◌, ◌*◌, ◌^◌, ◌≤◌, ◌<◌}
 use native.Mathlib.Nat.{le_refl, zero-add, add_assoc, not-suc-le-zero}
 use native.Mathlib.Decide.{dec_lt}
 use native.Mathlib.Numerals.{add-one}
@@ -10,7 +10,7 @@ use native.Mathlib.Omega.{arith}
 use lib.Arith.{digits_lt}
 use lib.Dec.{lit<}
 use lib.ListN.{length, take, drop, take-append-drop, drop_of_length-le, length-drop}
-use lib.Seq.{drop-cons, take-take, take-add, get_or-drop}
+use lib.Seq.{drop-cons, drop-drop, get_or-drop}
 use borrow.Author.Tests.{lt-ltb, le-ltb}
 use Rattle.parts.specs.Part.{byte_at, part_at, same_bytes}
 use Rattle.parts.proofs.Laws.{part_at-byte, same_bytes-of-eq, same_bytes-eq}
@@ -186,64 +186,37 @@ compared-drop w a b e =
 
 -- ---- byte by byte
 
--- The bytes before an offset are the same.
-pub record Passed (a b : List ℕ) (at : ℕ) : Type 0 where
-  pub begun : take at a ≡ take at b
+-- What is left from an offset on stands as what is left from another one does.
+pub record Passed (a b : List ℕ) (from at : ℕ) : Type 0 where
+  pub rest : compared (drop from a) (drop from b) ≡ compared (drop at a) (drop at b)
 
--- What was told before an offset by two bytes, the last that were compared.
-pub record Stands (a b : List ℕ) (x y at : ℕ) : Type 0 where
-  pub same : x ≡ y → Passed a b at
-  pub less : x < y → compared a b ≡ Below
-  pub greater : y < x → compared a b ≡ Above
+pub passed_none : (a b : List ℕ) (from : ℕ) → Passed a b from from
+passed_none a b from = record { rest = refl }
 
-pub passed_none : (a b : List ℕ) → Passed a b 0
-passed_none a b = record { begun = refl }
-
-module _ {a b : List ℕ} {at : ℕ} (p : Passed a b at) where
-  rest : compared a b ≡ compared (drop at a) (drop at b)
-  rest = compared-drop at a b p.begun
-
-  -- Where the bytes after the offset are the same too, up to any offset among them.
-  pub passed_to : (w to : ℕ) → at ≤ to → to ≤ at + w → take w (drop at a) ≡ take w (drop at b) → Passed a b to
-  passed_to w to l m e = record {
-    begun =
-        let n : to ≡ at + (to - at) = omega arith in
-        let part : (s : List ℕ) → take (to - at) (take w s) ≡ take (to - at) s = λ s. take-take (to - at) w s (omega arith) in
-        let after : take (to - at) (drop at a) ≡ take (to - at) (drop at b) = sym (part _) ∙ ap (take (to - at)) e ∙ part _ in
-        ap (λ (k : ℕ). take k a) n ∙ take-add at (to - at) a ∙ ap₂ ◌++◌ p.begun after
-        ∙ sym (ap (λ (k : ℕ). take k b) n ∙ take-add at (to - at) b);
-  }
-
+module _ {a b : List ℕ} {from at : ℕ} (p : Passed a b from at) where
   module _ (l : at < length a) (m : at < length b) where
-    opened : compared a b ≡ compared (byte_at a at ∷ drop (suc at) a) (byte_at b at ∷ drop (suc at) b)
-    opened = rest ∙ rw (drop-cons a at 0 l, drop-cons b at 0 m)
+    opened : compared (drop from a) (drop from b) ≡ compared (byte_at a at ∷ drop (suc at) a) (byte_at b at ∷ drop (suc at) b)
+    opened = p.rest ∙ rw (drop-cons a at 0 l, drop-cons b at 0 m)
 
-    pub below_at : byte_at a at < byte_at b at → compared a b ≡ Below
+    pub below_at : byte_at a at < byte_at b at → compared (drop from a) (drop from b) ≡ Below
     below_at h = opened ∙ first_below _ _ h
 
-    pub above_at : byte_at b at < byte_at a at → compared a b ≡ Above
+    pub above_at : byte_at b at < byte_at a at → compared (drop from a) (drop from b) ≡ Above
     above_at h = opened ∙ first_above _ _ h
 
-    pub passed-more : byte_at a at ≡ byte_at b at → Passed a b (at + 1)
-    passed-more e = passed_to 1 (at + 1) (omega arith) (omega arith) (rw (drop-cons a at 0 l, drop-cons b at 0 m) (ap (λ (x : ℕ). x ∷ []) e))
+    pub passed-more : byte_at a at ≡ byte_at b at → Passed a b from (at + 1)
+    passed-more e = record { rest = opened ∙ rw (e, add-one) (first-same _ _ _) }
 
-  -- What the bytes at the offset tell.
-  pub stands-byte : at < length a → at < length b → Stands a b (byte_at a at) (byte_at b at) (at + 1)
-  stands-byte l m = record { same = passed-more l m; less = below_at l m; greater = above_at l m }
+  pub equal-at-end : length a ≤ at → length b ≤ at → compared (drop from a) (drop from b) ≡ Equal
+  equal-at-end l m = p.rest ∙ rw (drop_of_length-le a l, drop_of_length-le b m) (compared-refl [])
 
-  pub equal-at-end : length a ≤ at → length b ≤ at → compared a b ≡ Equal
-  equal-at-end l m = rest ∙ rw (drop_of_length-le a l, drop_of_length-le b m) (compared-refl [])
-
-  pub below-at-end : length a ≤ at → at < length b → compared a b ≡ Below
+  pub below-at-end : length a ≤ at → at < length b → compared (drop from a) (drop from b) ≡ Below
   unfolding compared
-  below-at-end l m = rest ∙ rw (drop_of_length-le a l, drop-cons b at 0 m)
+  below-at-end l m = p.rest ∙ rw (drop_of_length-le a l, drop-cons b at 0 m)
 
-  pub above-at-end : at < length a → length b ≤ at → compared a b ≡ Above
+  pub above-at-end : at < length a → length b ≤ at → compared (drop from a) (drop from b) ≡ Above
   unfolding compared
-  above-at-end l m = rest ∙ rw (drop-cons a at 0 l, drop_of_length-le b m)
-
-pub stands-none : (a b : List ℕ) → Stands a b 0 0 0
-stands-none a b = record { same = λ e. passed_none a b; less = λ l. absurd (omega arith); greater = λ l. absurd (omega arith) }
+  above-at-end l m = p.rest ∙ rw (drop-cons a at 0 l, drop_of_length-le b m)
 
 -- ---- many bytes at once
 
@@ -309,6 +282,10 @@ take-of-big_at (suc w) (x ∷ a) (y ∷ b) u v l m h =
     (take-of-big_at w a b (λ i. u (suc i)) (λ i. v (suc i)) (omega arith) (omega arith)
     (omega (arith, ap (λ (n : ℕ). n * 256 ^ w) e)))
 
+pub drop-of-big_at : (w : ℕ) (a b : List ℕ) → Bytes a → Bytes b → w ≤ length a → w ≤ length b → big_at a 0 w ≡ big_at b 0 w
+    → compared a b ≡ compared (drop w a) (drop w b)
+drop-of-big_at w a b u v l m h = compared-drop w a b (take-of-big_at w a b u v l m h)
+
 -- ---- eight bytes at once
 
 -- Eight bytes as two halves.
@@ -338,15 +315,22 @@ module _ (s : List ℕ) (at : ℕ) where
 drop-bytes : (s : List ℕ) (at : ℕ) → Bytes s → Bytes (drop at s)
 drop-bytes s at h i = rw (get_or-drop at s i 0) (h (at + i))
 
-module _ {a b : List ℕ} {at : ℕ} (p : Passed a b at) (u : Bytes a) (v : Bytes b) where
-  pub below-eight : big_at a at 8 < big_at b at 8 → compared a b ≡ Below
-  below-eight h = rest p ∙ below-of-big_at 8 (drop at a) (drop at b) (drop-bytes b at v) (rw (big_at-drop a at 8, big_at-drop b at 8) h)
+module _ {a b : List ℕ} {from at : ℕ} (p : Passed a b from at) (u : Bytes a) (v : Bytes b) where
+  pub below-eight : big_at a at 8 < big_at b at 8 → compared (drop from a) (drop from b) ≡ Below
+  below-eight h = p.rest ∙ below-of-big_at 8 (drop at a) (drop at b) (drop-bytes b at v) (rw (big_at-drop a at 8, big_at-drop b at 8) h)
 
-  pub above-eight : big_at b at 8 < big_at a at 8 → compared a b ≡ Above
-  above-eight h = rest p ∙ above-of-big_at 8 (drop at a) (drop at b) (drop-bytes a at u) (rw (big_at-drop a at 8, big_at-drop b at 8) h)
+  pub above-eight : big_at b at 8 < big_at a at 8 → compared (drop from a) (drop from b) ≡ Above
+  above-eight h = p.rest ∙ above-of-big_at 8 (drop at a) (drop at b) (drop-bytes a at u) (rw (big_at-drop a at 8, big_at-drop b at 8) h)
 
-  pub passed-eight : (to : ℕ) → at ≤ to → to ≤ at + 8 → at + 8 ≤ length a → at + 8 ≤ length b → big_at a at 8 ≡ big_at b at 8 → Passed a b to
-  passed-eight to k n l m h =
-      passed_to p 8 to k n
-      (take-of-big_at 8 (drop at a) (drop at b) (drop-bytes a at u) (drop-bytes b at v)
-      (omega (arith, length-drop at a)) (omega (arith, length-drop at b)) (rw (big_at-drop a at 8, big_at-drop b at 8) h))
+  pub passed-eight : at + 8 ≤ length a → at + 8 ≤ length b → big_at a at 8 ≡ big_at b at 8 → Passed a b from (at + 8)
+  passed-eight l m h = record {
+    rest = p.rest
+        ∙ drop-of-big_at 8 (drop at a) (drop at b) (drop-bytes a at u) (drop-bytes b at v)
+        (omega (arith, length-drop at a)) (omega (arith, length-drop at b)) (rw (big_at-drop a at 8, big_at-drop b at 8) h)
+        ∙ rw (drop-drop 8 at a, drop-drop 8 at b);
+  }
+
+  pub differ-eight : (big_at a at 8 ≡ big_at b at 8 → ⊥) → same_bytes (drop from a) (drop from b) ≡ false
+  differ-eight h =
+      sym (equal-is-same (drop from a) (drop from b))
+      ∙ by_order (big_at a at 8) (big_at b at 8) (λ l. ap is_equal (below-eight l)) (λ e. absurd (h e)) (λ l. ap is_equal (above-eight l))

@@ -1,12 +1,14 @@
+#![tactic(auto)]
+
 // The order of keys: unsigned bytes from the left.
-ghost use Rattle.std.specs.Prelude.{◌≡◌, ◌+◌, ◌≤◌, ◌<◌, min, length, take};
+ghost use Rattle.std.specs.Prelude.{◌≡◌, ◌+◌, ◌≤◌, ◌<◌, length, drop};
 ghost use Rattle.parts.specs.Part.{byte_at, same_bytes};
 ghost use Rattle.numbers.specs.Number.{big_at};
 ghost use Rattle.key.specs.Order.{compared, is_below};
 ghost use Rattle.key.specs.Eight.{eight_at};
 
 // How one key stands to another.
-#[derive(Drop)]
+#[derive(Clone, Copy)]
 pub enum Order {
     Below,
     Equal,
@@ -49,93 +51,47 @@ pub fn eight(s: &[u8], at: usize) -> u64
     eight_inside(s, at)
 }
 
-// How many bytes the shorter of two keys has.
-fn shorter(a: &[u8], b: &[u8]) -> usize
-    ensures { result ≡ min (length a.now) (length b.now) }
+// How a stands to b from an offset on, byte by byte.
+fn compare_bytes(a: &[u8], b: &[u8], at: usize) -> Order
+    ensures { result ≡ compared (drop at a.now) (drop at b.now) }
 {
-    if a.len() < b.len() { a.len() } else { b.len() }
-}
-
-// How a stands to b where one is the beginning of the other.
-fn compare_lengths(a: &[u8], b: &[u8]) -> Order
-    requires { take (min (length a.now) (length b.now)) a.now ≡ take (min (length a.now) (length b.now)) b.now }
-    ensures { result ≡ compared a.now b.now }
-{
-    if a.len() < b.len() {
-        return Order::Below;
-    }
-    if b.len() < a.len() {
-        return Order::Above;
-    }
-    Order::Equal
-}
-
-// How a stands to b, byte by byte.
-fn compare_bytes(a: &[u8], b: &[u8]) -> Order
-    ensures { result ≡ compared a.now b.now }
-{
-    let mut x = 0;
-    let mut y = 0;
-    let mut at = 0;
-    while x == y {
-        if a.len() <= at {
-            return if at < b.len() {
-                Order::Below
-            } else {
-                Order::Equal
-            };
-        }
-        if b.len() <= at {
+    let mut same = at;
+    while same < a.len() {
+        if b.len() <= same {
             return Order::Above;
         }
-        x = a[at];
-        y = b[at];
-        at += 1;
-    }
-    if x < y { Order::Below } else { Order::Above }
-}
-
-// Where the next eight bytes begin: after the eight at an offset, or at the last eight where fewer are left. Bytes that are read again
-// are the same in both keys.
-fn next_eight(at: usize, last: usize) -> usize
-    requires { at < last }
-    ensures { (at < result) × (result ≤ at + 8) × (result ≤ last) }
-{
-    if last - at < 8 {
-        return last;
-    }
-    at + 8
-}
-
-// How a stands to b, eight bytes at once.
-fn compare_eights(a: &[u8], b: &[u8], count: usize) -> Order
-    requires { (8 ≤ count) × (count ≡ min (length a.now) (length b.now)) }
-    ensures { result ≡ compared a.now b.now }
-{
-    let last = count - 8;
-    let mut at = 0;
-    let mut x = eight_inside(a, 0);
-    let mut y = eight_inside(b, 0);
-    while x == y {
-        if last <= at {
-            return compare_lengths(a, b);
+        let x = a[same];
+        let y = b[same];
+        if x != y {
+            return if x < y { Order::Below } else { Order::Above };
         }
-        at = next_eight(at, last);
-        x = eight_inside(a, at);
-        y = eight_inside(b, at);
+        same += 1;
     }
-    if x < y { Order::Below } else { Order::Above }
+    if same < b.len() {
+        Order::Below
+    } else {
+        Order::Equal
+    }
 }
 
-// How a stands to b. Where one is the beginning of the other, the shorter is below.
+// How a stands to b. Where one is the beginning of the other, the shorter is below. Eight bytes at once while both have eight left,
+// then byte by byte.
 pub fn compare(a: &[u8], b: &[u8]) -> Order
     ensures { result ≡ compared a.now b.now }
 {
-    let count = shorter(a, b);
-    if 8 <= count {
-        return compare_eights(a, b, count);
+    let mut same = 0;
+    while 8 <= a.len() - same {
+        if b.len() - same < 8 {
+            return compare_bytes(a, b, same);
+        }
+        let x = eight_inside(a, same);
+        let y = eight_inside(b, same);
+        if x != y {
+            return if x < y { Order::Below } else { Order::Above };
+        }
+        same += 8;
     }
-    compare_bytes(a, b)
+    compare_bytes(a, b, same)
 }
 
 // Whether a is below b.
@@ -149,23 +105,23 @@ pub fn rises(a: &[u8], b: &[u8]) -> bool
     }
 }
 
-// Whether two keys are the same, whatever their first eight bytes.
-fn same_whole(a: &[u8], b: &[u8]) -> bool
+// Whether two keys are the same. A loop of its own: the compiler then makes one function of the comparison and `rises`.
+pub fn same(a: &[u8], b: &[u8]) -> bool
     ensures { result ≡ same_bytes a.now b.now }
 {
-    match compare(a, b) {
+    if a.len() != b.len() {
+        return false;
+    }
+    let mut at = 0;
+    while 8 <= a.len() - at {
+        if eight_inside(a, at) != eight_inside(b, at) {
+            return false;
+        }
+        at += 8;
+    }
+    match compare_bytes(a, b, at) {
         Order::Below => false,
         Order::Equal => true,
         Order::Above => false,
     }
-}
-
-// Whether two keys are the same. Where their first eight bytes differ, no call is made: most keys that a search passes are told so.
-pub fn same(a: &[u8], b: &[u8]) -> bool
-    ensures { result ≡ same_bytes a.now b.now }
-{
-    if eight(a, 0) != eight(b, 0) {
-        return false;
-    }
-    same_whole(a, b)
 }

@@ -1,5 +1,6 @@
-// The comparison of keys byte by byte, kept for the benchmark, which times it beside that of the library. The halving by it is a
-// crate and an archive of its own: with one caller each, both comparisons are compiled into their exports here.
+#![tactic(auto)]
+
+// The comparison of keys byte by byte, kept for the benchmark, which times it beside that of the library.
 ghost use Rattle.std.specs.Prelude.{◌≡◌};
 ghost use Rattle.key.specs.Order.{compared, is_below};
 ghost use Rattle.key_bytes.specs.Told.{order_number};
@@ -41,7 +42,7 @@ pub fn rises(a: &[u8], b: &[u8]) -> bool
 }
 
 // The number of an outcome for C.
-fn tell_order(order: Order) -> u32
+pub fn tell_order(order: Order) -> u32
     ensures { result ≡ order_number order }
 {
     match order {
@@ -49,20 +50,4 @@ fn tell_order(order: Order) -> u32
         Order::Equal => 1,
         Order::Above => 2,
     }
-}
-
-// How a stands to b, byte by byte: 0 below, 1 equal, 2 above.
-#[unsafe(no_mangle)]
-pub extern "C" fn key_bytes_compare(a: &[u8], b: &[u8]) -> u32
-    ensures { result ≡ order_number (compared a.now b.now) }
-{
-    tell_order(compare(a, b))
-}
-
-// The same by the comparison of the library.
-#[unsafe(no_mangle)]
-pub extern "C" fn key_eights_compare(a: &[u8], b: &[u8]) -> u32
-    ensures { result ≡ order_number (compared a.now b.now) }
-{
-    tell_order(key::compare(a, b))
 }

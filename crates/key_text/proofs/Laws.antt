@@ -13,8 +13,7 @@ use borrow.Author.Tests.{ltb-true, eqb-true, not-false, lt-ltb, le-ltb, eq-eqb, 
 use Rattle.numbers.specs.Number.{within}
 use Rattle.numbers.proofs.Laws.{within-inside, within-outside, within-range}
 use Rattle.index_layout.specs.Layout.{least_key_length, most_key_length}
-use Rattle.parts.specs.Part.{byte_at, part_at, overlay}
-use Rattle.parts.proofs.Laws.{overlay-inside}
+use Rattle.parts.specs.Part.{byte_at, part_at}
 use Rattle.refusal.specs.Check.{silent, refused, first_from}
 use Rattle.refusal.specs.Number.{settings, key_text_length, hex_digit}
 use Rattle.refusal.specs.Output.{filled}

@@ -1,3 +1,5 @@
+#![tactic(auto)]
+
 // Key text: two hex digits for each byte of a key, the higher first.
 ghost use Rattle.std.specs.Prelude.{◌≡◌, ◌≤◌, length, replicate};
 ghost use Rattle.refusal.specs.Check.{check_of, silent};
@@ -9,7 +11,7 @@ use numbers::within;
 use refusal::{HEX_DIGIT, KEY_TEXT_LENGTH, SETTINGS, Verdict, refuse};
 
 // A key by value: its bytes, and zeros past them. Beside a refusal all sixteen are zero.
-#[derive(Drop)]
+#[derive(Clone, Copy)]
 pub struct KeyText {
     pub verdict: Verdict,
     pub bytes: [u8; 16],

@@ -1,3 +1,5 @@
+#![tactic(auto)]
+
 // Whether keys that lie a fixed number of bytes apart rise strictly.
 ghost use Rattle.std.specs.Prelude.{◌≡◌, ◌-◌, ◌≤◌, ◌<◌};
 ghost use Rattle.rising.specs.Fall as spec;

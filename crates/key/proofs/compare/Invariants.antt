@@ -1,0 +1,14 @@
+-- `key::compare` meets its contract: the eights passed are the same; the first that differ decide, else the bytes that are left.
+use mathlib.Core.Path.{sym, ◌∙◌}
+use Prim.Native.Nat.{◌-◌, ◌≤◌}
+use native.Mathlib.Omega.{arith}
+use lib.ListN.{length}
+use borrow.Author.Rules.{rules}
+use Rattle.key.proofs.Laws.{Passed, passed_none, below-eight, above-eight, passed-eight}
+use Rattle.key.proofs.compare.Given as goal
+
+abbrev pub invariant-loop-same : goal.invariant-loop-same
+invariant-loop-same l = (l.same ≤ length l.a) × (l.same ≤ length l.b) × Passed l.a l.b 0 l.same
+
+abbrev pub decreases-loop-same : goal.decreases-loop-same
+decreases-loop-same l = length l.a - l.same
