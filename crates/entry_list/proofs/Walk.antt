@@ -1,8 +1,8 @@
 -- The cursor goes from entry to entry: from the first place on stand all entries, and a step passes over one.
-use mathlib.Core.Path.{◌≡◌, refl, sym, ap, ap₂, ◌∙◌}
-use mathlib.Core.Bool.{Bool, true, false, ◌&&◌, cond}
+use mathlib.Core.Path.{◌≡◌, sym, ap, ◌∙◌}
+use mathlib.Core.Bool.{true, false}
 use mathlib.Core.List.{List, [], ◌∷◌, ◌++◌}
-use Prim.Native.Nat.{ℕ, zero, suc, ◌+◌, ◌-◌, ◌≤◌, ◌<◌}
+use Prim.Native.Nat.{ℕ, suc, ◌+◌, ◌-◌, ◌≤◌, ◌<◌}
 use native.Mathlib.Decide.{dec_lt}
 use native.Mathlib.Numerals.{add-one}
 use native.Mathlib.Omega.{arith}
@@ -11,8 +11,8 @@ use Rattle.index_layout.specs.declared.Layout.{Layout}
 use Rattle.index_layout.specs.Layout.{on_page}
 use Rattle.index_entry.specs.Entry.{stored_entry}
 use Rattle.entry_list.specs.declared.Cursor.{Cursor}
-use Rattle.entry_list.specs.Entries.{Entry, entries_from, pages_from, entries_under}
-use Rattle.entry_list.specs.Cursor.{cursor_at, first_place, stands, entry_here, next_place, entries_at, head, tail, Walks, CursorWalks}
+use Rattle.entry_list.specs.Entries.{Entry, entries_from, pages_from}
+use Rattle.entry_list.specs.Cursor.{cursor_at, stands, entry_here, next_place, entries_at, head, tail, Walks, CursorWalks}
 use Rattle.entry_list.proofs.Laws.{stands_here, stands-past, standing, next-none, next-slot, next-page, entry-none, entry-stored}
 
 module _ (s : List ℕ) (l : Layout) where

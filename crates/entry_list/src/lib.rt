@@ -1,3 +1,5 @@
+#![tactic(auto)]
+
 // The entries of an archive index, one after the other. Every layout and every cursor is answered for.
 ghost use Rattle.std.specs.Prelude.{◌≡◌, ◌+◌};
 ghost use Rattle.entry_list.specs.Cursor as spec;
@@ -6,7 +8,7 @@ use index_layout::{Layout, Page, Slot};
 use parts::part;
 
 // A place among the entries of an index: a page and a slot of it.
-#[derive(Drop)]
+#[derive(Clone, Copy)]
 pub struct Cursor {
     pub page: Page,
     pub slot: Slot,

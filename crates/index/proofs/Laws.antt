@@ -8,7 +8,7 @@ use lib.Dec.{ltb, eqb}
 use Rattle.key.specs.Order.{compared, is_below}
 use Rattle.rising.specs.Fall.{rises_at, fall_from}
 use Rattle.rising.proofs.Laws.{fall-check, fall-low}
-use Rattle.refusal.specs.Check.{Check, silent, refused, refused_if, first, first_from}
+use Rattle.refusal.specs.Check.{Check, silent, refused, refused_if, first_from}
 use Rattle.refusal.specs.Number.{index_order}
 use Rattle.refusal.proofs.Laws.{said, quiet, upto-said, upto-quiet}
 use Rattle.index_layout.specs.declared.Layout.{Layout}

@@ -2,7 +2,7 @@
 use Rattle.std.specs.Prelude.{Bool, not, ◌&&◌, cond, List, ℕ, ◌-◌, ◌*◌, eqb, take}
 use Rattle.parts.specs.Part.{part_at, same_bytes, all_zero}
 use Rattle.key.specs.Order.{compared, is_below}
-use Rattle.md5.specs.Message.{md5}
+use Rattle.md5_digest.specs.Message.{md5}
 use Rattle.refusal.specs.Check.{Check, refused_if, first, first_from}
 use Rattle.refusal.specs.Outcome.{Outcome, answered, after}
 use Rattle.refusal.specs.Number.{index_page_hash, index_padding, index_order, last_key}

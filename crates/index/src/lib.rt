@@ -1,3 +1,5 @@
+#![tactic(auto)]
+
 // The full check of an archive index.
 ghost use Rattle.std.specs.Prelude.{◌≡◌};
 ghost use Rattle.index_open.specs.Open.{outcome};

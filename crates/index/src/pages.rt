@@ -1,6 +1,6 @@
 // The check of an index's pages.
 ghost use Rattle.std.specs.Prelude.{◌≡◌, not, ◌+◌, ◌-◌, take};
-ghost use Rattle.md5.specs.Message.{md5};
+ghost use Rattle.md5_digest.specs.Message.{md5};
 ghost use Rattle.refusal.specs.Check.{check_of, refused_if, first_from};
 ghost use Rattle.refusal.specs.Number.{index_page_hash, index_padding, last_key};
 ghost use Rattle.index_layout.specs.Layout as layout;
@@ -12,7 +12,7 @@ use parts::{all_zero, equal, part};
 use refusal::{INDEX_ORDER, INDEX_PADDING, INDEX_PAGE_HASH, LAST_KEY, Verdict, refuse};
 
 // The first eight bytes of the hashes of a page and of the next.
-#[derive(Drop)]
+#[derive(Clone, Copy)]
 pub struct PageHashes {
     pub first: [u8; 8],
     pub second: [u8; 8],

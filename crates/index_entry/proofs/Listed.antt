@@ -1,7 +1,7 @@
 -- The entries of an index, page by page and slot by slot, are its list.
 use mathlib.Core.Path.{◌≡◌, sym, ap, ◌∙◌}
 use mathlib.Core.List.{List}
-use Prim.Native.Nat.{ℕ, ◌+◌, ◌*◌}
+use Prim.Native.Nat.{ℕ, ◌*◌}
 use native.Mathlib.Nat.{zero-mul}
 use lib.ListN.{take, drop}
 use lib.Seq.{drop-drop}

@@ -1,3 +1,5 @@
+#![tactic(auto)]
+
 // One entry of an archive index, by its page and slot.
 ghost use Rattle.std.specs.Prelude.{◌≡◌, ◌≤◌};
 ghost use Rattle.index_entry.specs.Entry as spec;
@@ -10,7 +12,7 @@ use refusal::Refusal;
 pub const ARCHIVE_WIDTH: u8 = 6;
 
 // An entry: the place of its key and the key's length, encoded size, archive number and offset, page and slot.
-#[derive(Drop)]
+#[derive(Clone, Copy)]
 pub struct Entry {
     pub key_at: usize,
     pub key_length: u8,
@@ -22,7 +24,7 @@ pub struct Entry {
 }
 
 // What is answered for a page and a slot.
-#[derive(Drop)]
+#[derive(Clone, Copy)]
 pub enum Answer {
     Found(Entry),
     Absent,

@@ -12,7 +12,7 @@ use Rattle.parts.proofs.Parts.{part-laid, parts-length}
 use Rattle.index_layout.specs.declared.Layout.{Layout}
 use Rattle.index_layout.specs.Layout.{page_size, hash_length, entry_size, placed_on, page_offset, entry_at, page_of}
 use Rattle.index_layout.proofs.Laws.{key-within, placed-fits}
-use Rattle.md5.specs.Message.{md5}
+use Rattle.md5_digest.specs.Message.{md5}
 use Rattle.index_footer.proofs.Laws.{first-eight-length}
 use Rattle.index_file.specs.File.{entries_in, page_in, last_key_of}
 

@@ -9,7 +9,7 @@ use lib.Seq.{take_at}
 use Rattle.parts.specs.Part.{part_at, overlay}
 use Rattle.parts.proofs.Laws.{part_at-inside, part-of-part, overlay-after, overlay-inside}
 use Rattle.parts.proofs.Parts.{part-after, parts_same, parts-length, parts-part}
-use Rattle.md5.specs.Message.{md5}
+use Rattle.md5_digest.specs.Message.{md5}
 use Rattle.refusal.specs.Check.{silent}
 use Rattle.refusal.specs.Output.{filled}
 use Rattle.index_layout.specs.declared.Layout.{Layout}

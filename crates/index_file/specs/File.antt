@@ -1,7 +1,7 @@
 -- The bytes of an index that is written from a list of entries: rules I7 to I9 and I22.
 use Rattle.std.specs.Prelude.{List, ◌++◌, ℕ, ◌-◌, ◌*◌, take, replicate}
 use Rattle.parts.specs.Part.{part_at, parts_from}
-use Rattle.md5.specs.Message.{md5}
+use Rattle.md5_digest.specs.Message.{md5}
 use Rattle.index_layout.specs.declared.Layout.{Layout}
 use Rattle.index_layout.specs.Layout.{page_size, hash_length, entry_size, placed_on, placed_number, page_of, key_at}
 use Rattle.index_footer.specs.Footer.{footer_with}

@@ -1,3 +1,5 @@
+#![tactic(auto)]
+
 // The parts of an archive index before its footer: pages, last keys and page hashes. Each function answers for any list,
 // layout and output: bytes that do not fit are dropped.
 ghost use Rattle.std.specs.Prelude.{◌≡◌, ◌*◌, ◌≤◌, length};
@@ -48,7 +50,7 @@ pub fn write_pages(list: &[u8], l: Layout, output: &mut [u8])
 }
 
 // A key by value, its bytes in front: the output that it is put into may be what it was read from.
-#[derive(Drop)]
+#[derive(Clone, Copy)]
 struct Key {
     bytes: [u8; LONGEST_KEY],
     count: usize,

@@ -10,7 +10,7 @@ use Rattle.parts.proofs.Laws.{overlay-after}
 use Rattle.index_layout.specs.declared.Layout.{Layout}
 use Rattle.index_layout.specs.Layout.{page_size, footer_size, hash_length, version_at, footer_hash_at, page_offset, last_key_offset, page_hash_at, index_length_of}
 use Rattle.index_layout.proofs.Laws.{bound}
-use Rattle.md5.specs.Message.{md5, digest_of, little_bytes}
+use Rattle.md5_digest.specs.Message.{md5, digest_of, little_bytes}
 use Rattle.index_footer.specs.Footer.{footer_at, contents_of, fields, hashed_fields, footer_with}
 
 -- where the last keys, the page hashes and the footer begin

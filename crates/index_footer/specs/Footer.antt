@@ -1,7 +1,7 @@
 -- The footer of an index that is written: rules I2 to I4 and I14.
 use Rattle.std.specs.Prelude.{List, ◌∷◌, ◌++◌, ℕ, ◌-◌, take, replicate}
 use Rattle.parts.specs.Part.{part_at}
-use Rattle.md5.specs.Message.{md5, little_bytes}
+use Rattle.md5_digest.specs.Message.{md5, little_bytes}
 use Rattle.index_layout.specs.declared.Layout.{Layout}
 use Rattle.index_layout.specs.Layout.{page_kb_value, size_width, hash_length, last_key_offset, page_hash_at}
 

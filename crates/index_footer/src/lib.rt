@@ -1,7 +1,9 @@
+#![tactic(auto)]
+
 // The footer of an archive index that is written.
 ghost use Rattle.std.specs.Prelude.{◌≡◌, ◌++◌, ◌+◌, take, replicate};
 ghost use Rattle.parts.specs.Part.{overlay};
-ghost use Rattle.md5.specs.Message.{md5};
+ghost use Rattle.md5_digest.specs.Message.{md5};
 ghost use Rattle.index_layout.specs.Layout as layout;
 ghost use Rattle.index_footer.specs.Footer as spec;
 
@@ -53,7 +55,7 @@ fn write_contents_hash(l: Layout, output: &mut [u8])
 {
     let from = l.last_key_at(Page(0));
     let at = l.page_hash_at(Page(l.pages));
-    let contents = md5::first_eight(part(output, from, at - from));
+    let contents = md5_digest::first_eight(part(output, from, at - from));
     let hash = contents.bytes;
     copy(&hash, output, at);
 }
@@ -64,7 +66,7 @@ fn write_fields(l: Layout, output: &mut [u8])
 {
     let at = l.page_hash_at(Page(l.pages));
     let mut fields = unhashed_fields(l);
-    let footer = md5::first_eight(&fields);
+    let footer = md5_digest::first_eight(&fields);
     let hash = footer.bytes;
     copy(&hash, &mut fields, FOOTER_HASH_AT - VERSION_AT);
     copy(&fields, output, at + VERSION_AT);

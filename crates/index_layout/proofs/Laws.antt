@@ -6,7 +6,6 @@ use native.Mathlib.Nat.{le_trans, mul-le-mul, mul-le-mul_left, mul-le-mul_right,
 use native.Mathlib.Nat.{div-add-mod', le-div_iff_mul-le, min-le_left, add-mul, mul-one, one-mul, suc-mul}
 use native.Mathlib.Decide.{dec_lt}
 use native.Mathlib.Omega.{arith}
-use lib.ListN.{take}
 use Rattle.parts.specs.Part.{part_at, byte_at}
 use Rattle.parts.proofs.Laws.{part-of-part}
 use Rattle.index_layout.specs.declared.Layout.{Layout}

@@ -1,3 +1,5 @@
+#![tactic(auto)]
+
 // Where things stand in an archive index, and the size and location of an entry. Every value of a layout is answered for: the types keep each sum and product
 // within its range. specs/Layout.antt has the same names, as that language writes them.
 ghost use Rattle.std.specs.Prelude.{◌≡◌, ◌-◌, ◌≤◌};
@@ -52,7 +54,7 @@ pub const HASH_LENGTH: u8 = 8;
 pub const MOST_ENTRIES: u64 = 8_388_608;
 
 // What the footer says: version, offset width, key length, entry count and page count.
-#[derive(Drop)]
+#[derive(Clone, Copy)]
 pub struct Layout {
     pub version: u8,
     pub offset_width: u8,
@@ -62,11 +64,11 @@ pub struct Layout {
 }
 
 // The number of a page, from 0.
-#[derive(Drop)]
+#[derive(Clone, Copy)]
 pub struct Page(pub u32);
 
 // The number of an entry within its page, from 0.
-#[derive(Drop)]
+#[derive(Clone, Copy)]
 pub struct Slot(pub u32);
 
 // The archive number in a location of six bytes.

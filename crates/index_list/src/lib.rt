@@ -1,3 +1,5 @@
+#![tactic(auto)]
+
 // The list of an index: its entries' bytes, in order, with nothing between.
 ghost use Rattle.std.specs.Prelude.{◌≡◌, ◌≤◌, length};
 ghost use Rattle.refusal.specs.Check.{silent};

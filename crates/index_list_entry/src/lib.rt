@@ -1,3 +1,5 @@
+#![tactic(auto)]
+
 // One entry of the list that an index is written from.
 ghost use Rattle.std.specs.Prelude.{◌≡◌, ◌+◌, ◌^◌, ◌≤◌, length};
 ghost use Rattle.refusal.specs.Check.{check_of, silent};

@@ -13,7 +13,7 @@ use Rattle.md5_block.specs.declared.Words.{Words}
 use Rattle.md5_block.specs.Block.{addends, word, words_of, block, whole}
 use Rattle.md5_block.proofs.BlockLaws.{whole-one}
 use Rattle.md5_end.specs.End.{little_bytes, padding, initial, digest_of}
-use Rattle.md5.specs.Message.{md5, digest_or0}
+use Rattle.md5_digest.specs.Message.{md5, digest_or0}
 use Rattle.parts.specs.Part.{byte_at, part_at, same_bytes}
 use Rattle.parts.proofs.Laws.{part_at-inside}
 use Rattle.refusal.specs.declared.Refusal.{Refusal}

@@ -2,7 +2,7 @@
 use Rattle.std.specs.Prelude.{Bool, true, false, not, List, [], ◌∷◌, ◌++◌, ℕ, ◌+◌, ◌-◌, ltb, eqb, length, take, replicate}
 use Rattle.parts.specs.Part.{byte_at, part_at, same_bytes}
 use Rattle.numbers.specs.Number.{within}
-use Rattle.md5.specs.Message.{md5}
+use Rattle.md5_digest.specs.Message.{md5}
 use Rattle.refusal.specs.Check.{Check, silent, refused, refused_if, first}
 use Rattle.refusal.specs.Outcome.{Outcome, answered, refusal, after}
 use Rattle.refusal.specs.Number.{index_short, footer_version, footer_reserved, footer_page_size, footer_offset_width, footer_size_width}

@@ -1,3 +1,5 @@
+#![tactic(auto)]
+
 // Opening an archive index: the opening checks, and the layout that the footer tells; and whether a footer is that of a loose index.
 ghost use Rattle.std.specs.Prelude.{◌≡◌, not, ◌++◌, ◌<◌, ◌≤◌, length};
 ghost use Rattle.md5_block.specs.Block.{words_of};
@@ -27,7 +29,7 @@ use refusal::{
 pub const LOOSE_OFFSET_WIDTH: u8 = 0;
 
 // What reading the footer of an index, opening or checking it answers.
-#[derive(Drop)]
+#[derive(Clone, Copy)]
 pub enum Checked {
     Passed(Layout),
     Refused(Refusal),

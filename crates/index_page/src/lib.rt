@@ -1,3 +1,5 @@
+#![tactic(auto)]
+
 // Where a page of an archive index and its parts stand.
 ghost use Rattle.std.specs.Prelude.{◌≡◌};
 ghost use Rattle.index_page.specs.Page as spec;
@@ -11,7 +13,7 @@ const GREATEST_PAGE: u64 = 4_294_967_295;
 
 // A page: its place, the places of its stored last key and hash and the key's length, the number of its first entry through the whole
 // file and how many it has.
-#[derive(Drop)]
+#[derive(Clone, Copy)]
 pub struct Places {
     pub page_at: usize,
     pub last_key_at: usize,
@@ -22,7 +24,7 @@ pub struct Places {
 }
 
 // What is answered for a page.
-#[derive(Drop)]
+#[derive(Clone, Copy)]
 pub enum Answer {
     Found(Places),
     Absent,

@@ -1,3 +1,5 @@
+#![tactic(auto)]
+
 // Writing an archive index from its settings and its list.
 ghost use Rattle.std.specs.Prelude.{◌≡◌, ◌≤◌, length};
 ghost use Rattle.refusal.specs.Check.{silent};
@@ -20,7 +22,7 @@ use numbers::within;
 use refusal::{ENTRY_COUNT, INDEX_ORDER, LIST_LENGTH, OUTPUT_SHORT, Refusal, SETTINGS, Written};
 
 // What an index is written with, beside its list: version, offset width and key length.
-#[derive(Drop)]
+#[derive(Clone, Copy)]
 pub struct Settings {
     pub version: u8,
     pub offset_width: u8,
