@@ -1,21 +1,20 @@
 -- The entries of an index that passes the full check: their keys rise, each is whole, and joined they are the list.
 use mathlib.Core.Path.{◌≡◌, refl, sym, ap, ap₂, ◌∙◌}
 use mathlib.Core.Bool.{true}
-use mathlib.Core.List.{List, [], ◌∷◌, ◌++◌}
-use Prim.Native.Nat.{ℕ, zero, suc, ◌+◌, ◌-◌, ◌*◌, ◌≤◌, ◌<◌}
+use mathlib.Core.List.{List, ◌++◌}
+use Prim.Native.Nat.{ℕ, zero, suc, ◌+◌, ◌-◌, ◌<◌}
 use native.Mathlib.Nat.{mul-le-mul_right, suc-mul}
 use native.Mathlib.Omega.{arith}
 use lib.ListN.{length, take}
 use Rattle.parts.specs.Part.{parts_from}
 use Rattle.parts.proofs.Laws.{part_at-inside}
-use Rattle.parts.proofs.Parts.{parts_same}
 use Rattle.key.specs.declared.Order.TheVariants.{Below}
 use Rattle.key.specs.Order.{compared, is_below}
 use Rattle.refusal.specs.Check.{silent}
 use Rattle.refusal.proofs.Laws.{first-left, first-right}
 use Rattle.index_layout.specs.declared.Layout.{Layout}
-use Rattle.index_layout.specs.Layout.{entry_size, on_page, page_offset, entry_at, layout_of, key_at}
-use Rattle.index_layout.specs.Entries.{entries_by, list_of}
+use Rattle.index_layout.specs.Layout.{entry_size, on_page, entry_at, layout_of, key_at}
+use Rattle.index_layout.specs.Entries.{list_of}
 use Rattle.index_layout.proofs.Laws.{on-page-fits}
 use Rattle.index_open.specs.Open.{opening}
 use Rattle.index_open.proofs.Opened.{Opened, opened, on-page-some, page-inside, size-range}
@@ -23,7 +22,7 @@ use Rattle.index.specs.Check.{pages_check, full_check}
 use Rattle.index_entry.specs.Entry.{stored_entry}
 use Rattle.index_entry.proofs.Listed.{entries-of-list}
 use Rattle.index_agreement.proofs.Rising.{next-below, over_below}
-use Rattle.entry_list.specs.Entries.{Entry, entries_from, pages_from, index_entries, list_entries, joined, sized, below_first, rises}
+use Rattle.entry_list.specs.Entries.{entries_from, pages_from, index_entries, list_entries, joined, sized, below_first, rises}
 use Rattle.entry_list.proofs.Lists.{joined-append, joined-from, cut-joined, sized-from, rises-on}
 use Rattle.entry_list_laws.specs.Claims.{CheckedRises}
 use Rattle.entry_list_laws.proofs.Reading.{entry_key}

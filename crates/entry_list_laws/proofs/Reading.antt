@@ -1,8 +1,8 @@
 -- The plain reading ends at the first entry of the list whose key is the sought one.
 use mathlib.Core.Path.{◌≡◌, refl, sym, ap, ◌∙◌}
 use mathlib.Core.Bool.{Bool, true, false, cond}
-use mathlib.Core.List.{List, [], ◌∷◌, ◌++◌}
-use Prim.Native.Nat.{ℕ, zero, suc, ◌+◌, ◌≤◌}
+use mathlib.Core.List.{List, ◌++◌}
+use Prim.Native.Nat.{ℕ, zero, suc}
 use native.Mathlib.Nat.{add-zero}
 use native.Mathlib.Omega.{arith}
 use lib.ListN.{take}
@@ -17,7 +17,7 @@ use Rattle.index_layout.proofs.Laws.{key-within}
 use Rattle.index_entry.specs.Entry.{stored_entry}
 use Rattle.index_agreement.specs.Plain as plain
 use Rattle.index_agreement.specs.Plain.{Plain, found, absent, plain_reading}
-use Rattle.entry_list.specs.Entries.{Entry, entries_from, pages_from, Sought, here, nowhere, first_with}
+use Rattle.entry_list.specs.Entries.{Entry, entries_from, pages_from, Sought, here, first_with}
 use Rattle.entry_list_laws.specs.Claims.{entry_read, PlainReadingIsFirst}
 
 -- the key of a stored entry

@@ -1,8 +1,8 @@
 -- Entries that are written are read back, and a list that a writer takes has such entries.
 use mathlib.Core.Path.{◌≡◌, refl, sym, ap, ap₂, ◌∙◌}
-use mathlib.Core.Bool.{true, false, not}
-use mathlib.Core.List.{List, [], ◌∷◌, ◌++◌, append-nil}
-use Prim.Native.Nat.{ℕ, zero, suc, ◌+◌, ◌-◌, ◌*◌, ◌/◌, ◌%◌, ◌≤◌, ◌<◌}
+use mathlib.Core.Bool.{true, not}
+use mathlib.Core.List.{List, [], append-nil}
+use Prim.Native.Nat.{ℕ, suc, ◌-◌, ◌*◌, ◌/◌, ◌%◌, ◌≤◌, ◌<◌}
 use native.Mathlib.Nat.{zero-mul, suc-mul, add-zero, mul-div_cancel, mul-mod_left, mul-le-mul_right, le_refl}
 use native.Mathlib.Omega.{arith}
 use lib.ListN.{length, take}
@@ -16,7 +16,6 @@ use Rattle.refusal.specs.Check.{silent}
 use Rattle.refusal.specs.Number.{settings, list_length, entry_count, index_order}
 use Rattle.refusal.proofs.Laws.{quiet, skip, from-silent, first-left, silent-test}
 use Rattle.index_layout.specs.Layout.{most_entries, entry_size, index_length_of, layout_of}
-use Rattle.index_layout.specs.Entries.{list_of}
 use Rattle.index_layout.proofs.Laws.{size_low, key-within}
 use Rattle.index_open.specs.Open.{opening}
 use Rattle.index_open.proofs.Opened.{opened}

@@ -4,7 +4,6 @@ use mathlib.Core.List.{List}
 use Prim.Native.Nat.{ℕ}
 use lib.ListN.{length}
 use Rattle.refusal.specs.Check.{silent}
-use Rattle.refusal.specs.Outcome.{Outcome}
 use Rattle.refusal.proofs.Laws.{first-left, first-right, after-quiet}
 use Rattle.index_layout.specs.Layout.{full, layout_of}
 use Rattle.index_layout.proofs.Laws.{on-page-full}

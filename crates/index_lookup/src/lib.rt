@@ -1,3 +1,5 @@
+#![tactic(auto)]
+
 // The lookup of a key in an archive index, by the halving rule, and how many stored keys it may compare.
 ghost use Rattle.std.specs.Prelude.{◌≡◌, [], ◌∷◌, ◌≤◌, length};
 ghost use Rattle.refusal.specs.Outcome.{answered};
@@ -11,7 +13,7 @@ use parts::part;
 use refusal::{INDEX_KEY_LENGTH, Refusal};
 
 // A found entry, and how many stored keys were compared.
-#[derive(Drop)]
+#[derive(Clone, Copy)]
 pub struct Entry {
     pub page: Page,
     pub slot: Slot,
@@ -21,7 +23,7 @@ pub struct Entry {
 }
 
 // What a lookup answers. An absent key comes with the number of stored keys compared.
-#[derive(Drop)]
+#[derive(Clone, Copy)]
 pub enum Answer {
     Found(Entry),
     Absent(u32),
@@ -29,21 +31,21 @@ pub enum Answer {
 }
 
 // What the bound of an index's lookups answers.
-#[derive(Drop)]
+#[derive(Clone, Copy)]
 pub enum Bounded {
     Comparisons(u32),
     Refused(Refusal),
 }
 
 // The page where the halving over the last keys ended, and how many it compared.
-#[derive(Drop)]
+#[derive(Clone, Copy)]
 struct PageEnd {
     page: Page,
     compared: u32,
 }
 
 // The slot where the halving over a page's entries ended, and how many it compared.
-#[derive(Drop)]
+#[derive(Clone, Copy)]
 struct SlotEnd {
     slot: Slot,
     compared: u32,

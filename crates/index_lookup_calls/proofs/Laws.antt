@@ -2,12 +2,11 @@
 use mathlib.Core.Path.{◌≡◌, refl, sym, ap, ◌∙◌}
 use mathlib.Core.List.{List, [], ◌∷◌}
 use Prim.Native.Nat.{ℕ, ◌≤◌}
-use lib.Dec.{eqb}
 use lib.ListN.{length}
 use borrow.Author.Tests.{eqb-true, not-false}
-use Rattle.refusal.specs.Check.{Check, silent, refused, first}
+use Rattle.refusal.specs.Check.{Check, silent, refused}
 use Rattle.refusal.specs.Number.{index_key_length}
-use Rattle.refusal.specs.Outcome.{answered, refusal, after}
+use Rattle.refusal.specs.Outcome.{refusal}
 use Rattle.refusal.proofs.Laws.{silent-test, first-left, first_said, skip, after-said, after-quiet, answered-after}
 use Rattle.index_layout.specs.Layout.{layout_of, full}
 use Rattle.index_layout.proofs.Laws.{on-page-full}

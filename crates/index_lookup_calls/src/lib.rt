@@ -1,3 +1,5 @@
+#![tactic(auto)]
+
 // The full check of an index, the lookup of a key in it and the bound, one call after the other. Demand 3 is what `look` ensures of
 // their answers, so that it rests on the contracts of the functions themselves.
 ghost use Rattle.std.specs.Prelude.{◌≡◌, ℕ, ◌≤◌};
@@ -10,7 +12,7 @@ use index_lookup::{Answer, Bounded};
 use index_open::Checked;
 
 // What the lookup and the bound answered after the full check; its refusal for both where it refused.
-#[derive(Drop)]
+#[derive(Clone, Copy)]
 pub struct Looked {
     pub looked: Answer,
     pub most: Bounded,

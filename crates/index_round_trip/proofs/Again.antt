@@ -14,7 +14,7 @@ use Rattle.parts.proofs.Laws.{part_at-inside, same_bytes-eq, all_zero-eq, overla
 use Rattle.parts.proofs.Parts.{part-add, parts_same, parts-of, parts_at}
 use Rattle.numbers.specs.Number.{little_at}
 use Rattle.numbers.proofs.Laws.{within-inside}
-use Rattle.md5.specs.Message.{md5, little_bytes}
+use Rattle.md5_digest.specs.Message.{md5, little_bytes}
 use Rattle.key.specs.Order.{compared, is_below}
 use Rattle.refusal.specs.Check.{silent, first, first_from}
 use Rattle.refusal.specs.Number as number

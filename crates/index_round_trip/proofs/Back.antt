@@ -15,7 +15,7 @@ use Rattle.parts.proofs.Laws.{part-of-part, same_bytes-of-eq, all_zero-replicate
 use Rattle.parts.proofs.Parts.{part-after, parts_same, parts-of, parts-part}
 use Rattle.numbers.specs.Number.{little_at, within}
 use Rattle.numbers.proofs.Laws.{within-inside}
-use Rattle.md5.specs.Message.{md5, digest_of, little_bytes}
+use Rattle.md5_digest.specs.Message.{md5, digest_of, little_bytes}
 use Rattle.key.specs.Order.{compared, is_below}
 use Rattle.refusal.specs.Check.{silent}
 use Rattle.refusal.specs.Number.{index_short, footer_hash, entry_count, index_length, index_page_hash, index_padding, index_order, last_key}

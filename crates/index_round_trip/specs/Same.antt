@@ -1,7 +1,7 @@
 -- The same file but for the eight bytes of the contents hash: rules I14 and I15.
 use Rattle.std.specs.Prelude.{List, ℕ, ◌-◌, length, take}
 use Rattle.parts.specs.Part.{overlay}
-use Rattle.md5.specs.Message.{md5}
+use Rattle.md5_digest.specs.Message.{md5}
 use Rattle.index_layout.specs.declared.Layout.{Layout}
 use Rattle.index_layout.specs.Layout.{footer_size, hash_length, layout_of}
 use Rattle.index_footer.specs.Footer.{contents_of}

@@ -1,18 +1,17 @@
 -- What writing again and reading back tell, from what each call tells.
 use mathlib.Core.Path.{◌≡◌, refl, sym, ap, ap₂, ◌∙◌}
-use mathlib.Core.List.{List, [], ◌∷◌, ◌++◌}
-use Prim.Native.Nat.{ℕ, ◌-◌, ◌≤◌, ◌<◌}
+use mathlib.Core.List.{List, [], ◌∷◌}
+use Prim.Native.Nat.{ℕ, ◌<◌}
 use native.Mathlib.Omega.{arith}
 use lib.ListN.{length, take, drop}
 use lib.Seq.{take_at}
 use Rattle.parts.specs.Part.{byte_at, part_at}
-use Rattle.parts.proofs.Laws.{overlay-length}
-use Rattle.refusal.specs.Check.{Check, silent, refused, first}
+use Rattle.refusal.specs.Check.{Check, silent, refused}
 use Rattle.refusal.specs.Outcome.{answered, refusal, after}
 use Rattle.refusal.specs.Output.{room_check, filled}
-use Rattle.refusal.proofs.Laws.{first-left, first_said, skip, after-said, after-quiet, answered-after}
+use Rattle.refusal.proofs.Laws.{first-left, first_said, skip, after-said, after-quiet}
 use Rattle.index_layout.specs.declared.Layout.{Layout}
-use Rattle.index_layout.specs.Layout.{footer_size, index_length_of, layout_of}
+use Rattle.index_layout.specs.Layout.{index_length_of, layout_of}
 use Rattle.index_layout.specs.Entries.{list_of}
 use Rattle.index_open.specs.Open.{opening, layout_values}
 use Rattle.index_open.proofs.Opened.{opened}
@@ -21,7 +20,7 @@ use Rattle.index_list.specs.List.{list_check, list_outcome}
 use Rattle.index_file.specs.File.{file_of}
 use Rattle.index_file.proofs.Parts.{file-length}
 use Rattle.index_writer.specs.declared.Settings.{Settings}
-use Rattle.index_writer.specs.Write.{layout_for, input_check, write_check, write_outcome}
+use Rattle.index_writer.specs.Write.{layout_for, write_check, write_outcome}
 use Rattle.index_writer.proofs.Passed.{passed, held}
 use Rattle.index_round_trip.specs.Same.{settings_of, contents_hash_of, with_contents_hash}
 use Rattle.index_round_trip.proofs.Back.{layout-back, full-quiet, list_back}

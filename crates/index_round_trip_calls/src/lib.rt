@@ -1,3 +1,5 @@
+#![tactic(auto)]
+
 // A checked index, listed and written again, and a written one, read back: the calls of demand 2, one after the other. The demand is
 // what the two functions ensure, so that it rests on the contracts of the functions they call.
 ghost use Rattle.std.specs.Prelude.{◌≡◌, length};
