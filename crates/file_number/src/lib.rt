@@ -1,3 +1,5 @@
+#![tactic(auto)]
+
 // File numbers as decimal text. Any bytes are answered for.
 ghost use Rattle.std.specs.Prelude.{◌≡◌, ℕ, ◌≤◌, length};
 ghost use Rattle.text.specs.Text.{decimal};
@@ -18,14 +20,14 @@ pub const NO_DIGIT: u32 = 3;
 pub const TOO_GREAT: u32 = 4;
 
 // What is wrong, and the byte offset where it is.
-#[derive(Drop)]
+#[derive(Clone, Copy)]
 pub struct Fault {
     pub what: u32,
     pub place: usize,
 }
 
 // What a text tells.
-#[derive(Drop)]
+#[derive(Clone, Copy)]
 pub enum Told {
     Number(u32),
     NoNumber(Fault),

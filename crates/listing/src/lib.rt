@@ -1,3 +1,5 @@
+#![tactic(auto)]
+
 // An archive index as text.
 ghost use Rattle.std.specs.Prelude.{◌≡◌, ◌≤◌, length};
 ghost use Rattle.refusal.specs.Outcome.{answered, after, written_outcome};

@@ -1,3 +1,5 @@
+#![tactic(auto)]
+
 // The lines of a listing, put into output from a place on.
 ghost use Rattle.std.specs.Prelude.{◌≡◌, length};
 ghost use Rattle.parts.specs.Part.{overlay};

@@ -9,11 +9,11 @@ use borrow.Author.Tests.{le-leb}
 use Rattle.refusal.specs.declared.Refusal.{Refusal}
 use Rattle.refusal.specs.declared.Written.{Written}
 use Rattle.refusal.specs.declared.Written.TheVariants.{Bytes, Refused}
-use Rattle.refusal.specs.Check.{Check, silent, refused}
-use Rattle.refusal.specs.Outcome.{answered, after, written_outcome}
+use Rattle.refusal.specs.Check.{silent, refused}
+use Rattle.refusal.specs.Outcome.{written_outcome}
 use Rattle.refusal.specs.Output.{filled}
 use Rattle.refusal.proofs.Laws.{answered-after, refusal-after}
-use Rattle.text.specs.Text.{ascii, decimal, numbered}
+use Rattle.text.specs.Text.{ascii, numbered}
 use Rattle.text.proofs.PutLaws.{Put, put_whole}
 use Rattle.text.proofs.TextLaws.{decimal-most}
 use Rattle.listing.specs.Listing.{text_of, listing_check, listing_outcome, fitted}

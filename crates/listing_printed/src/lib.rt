@@ -1,3 +1,5 @@
+#![tactic(auto)]
+
 // What the listing program prints: the listing of an index, or the line of a refusal.
 ghost use Rattle.std.specs.Prelude.{◌≡◌, length};
 ghost use Rattle.refusal.specs.Check.{silent};

@@ -1,3 +1,5 @@
+#![tactic(auto)]
+
 // Separated text: rows of fields, of which some stand in quotes. Any bytes and any offset are answered for.
 ghost use Rattle.std.specs.Prelude.{◌≡◌, ◌+◌, ◌≤◌, length};
 ghost use Rattle.worklist.specs.Rows as spec;
@@ -14,21 +16,21 @@ pub const LF: u8 = 10;
 pub const MOST_SEPARATOR: u32 = 255;
 
 // Where a quoted field is closed: the place behind its closing quote.
-#[derive(Drop)]
+#[derive(Clone, Copy)]
 pub enum Closing {
     Behind(usize),
     Never,
 }
 
 // A field: where it ends and whether it is quoted, or the place where its row is malformed.
-#[derive(Drop)]
+#[derive(Clone, Copy)]
 pub enum FieldEnd {
     Whole(usize, bool),
     Faulty(usize),
 }
 
 // A field of a row, by its place and length.
-#[derive(Drop)]
+#[derive(Clone, Copy)]
 pub struct Span {
     pub at: usize,
     pub length: usize,
@@ -36,7 +38,7 @@ pub struct Span {
 }
 
 // A row that was read: where it ends, how many fields it has, and one of them; or the place where it is malformed.
-#[derive(Drop)]
+#[derive(Clone, Copy)]
 pub enum Walked {
     Whole(usize, usize, Span),
     Malformed(usize),
@@ -44,7 +46,7 @@ pub enum Walked {
 
 // What is answered for a row: where it ends and where the next begins, and the number of its fields or the place where it is
 // malformed.
-#[derive(Drop)]
+#[derive(Clone, Copy)]
 pub enum RowAnswer {
     Whole {
         end: usize,
@@ -61,7 +63,7 @@ pub enum RowAnswer {
 }
 
 // What is answered for a field.
-#[derive(Drop)]
+#[derive(Clone, Copy)]
 pub enum FieldAnswer {
     Found(Span),
     Absent,

@@ -14,7 +14,6 @@ use Rattle.parts.specs.Part.{byte_at, part_at, overlay}
 use Rattle.parts.proofs.Laws.{by-test, overlay-none, overlay-after}
 use Rattle.parts.proofs.Parts.{part-add}
 use Rattle.worklist.specs.declared.RowAnswer.{RowAnswer}
-use Rattle.worklist.specs.declared.RowAnswer.TheVariants as answer
 use Rattle.worklist.specs.Rows.{cr, lf, no_separator, behind_line_end, stops, Row, row_at, row_end, row_values, row_outcome, length_of, outcome_of_row}
 use Rattle.worklist.proofs.Laws.{there, behind}
 use Rattle.worklist.proofs.Told.{no-separator-told, no-row-told, row_told}

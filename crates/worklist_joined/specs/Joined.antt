@@ -3,7 +3,7 @@ use Rattle.std.specs.Prelude.{◌≡◌, true, false, cond, List, [], ◌∷◌,
 use Rattle.parts.specs.Part.{byte_at, part_at, overlay}
 use Rattle.worklist.specs.declared.Span.{Span}
 use Rattle.worklist_unquoted.specs.Unquoted.{content_of, quoted_text}
-use Rattle.worklist.specs.Rows.{quote, cr, lf, stops, no_separator, behind_line_end, Row, whole, malformed, row_at, row_end, field_outcome, field_part, span_in}
+use Rattle.worklist.specs.Rows.{cr, lf, stops, no_separator, behind_line_end, Row, whole, malformed, row_at, row_end, field_outcome, field_part, span_in}
 
 -- ---- rows
 

@@ -1,3 +1,5 @@
+#![tactic(auto)]
+
 // The rows of separated text, and the fields of a row, copied one after the other: what is joined is the text, and the row.
 ghost use Rattle.std.specs.Prelude.{◌≡◌, false, not, ◌+◌, ◌^◌, ◌<◌, ◌≤◌, length};
 ghost use Rattle.parts.specs.Part.{overlay};

@@ -1,3 +1,5 @@
+#![tactic(auto)]
+
 // The bytes that a field of separated text stands for. Any bytes are answered for.
 ghost use Rattle.std.specs.Prelude.{◌≡◌, false, ◌+◌, ◌^◌, ◌<◌, length};
 ghost use Rattle.refusal.specs.Outcome.{written_outcome};

@@ -1,0 +1,17 @@
+-- `listing_lines::put_location`: archive number and offset, or a dash.
+use borrow.Author.Rules.{rules}
+use Rattle.text.specs.Text.{ascii}
+use Rattle.text.proofs.PutLaws.{both, told, put_next, put_same}
+use Rattle.listing_lines.proofs.Laws.{location-six, location-dash}
+use Rattle.listing_lines.proofs.put_location.Goals as goal
+
+pub returns-then-width-eq6 : goal.returns-then-width-eq6
+unfolding ascii
+returns-then-width-eq6 c =
+    let whole = both (put_same (put_next (search rules) (told _ _ _ _ _ (c.put_number-to.ensures.value, c.put_number-to.ensures.output_after)) (told _ _ _ _ _ (c.put_number.ensures.value, c.put_number.ensures.output_after)))
+    (location-six _ _ _ _ c.if-width-eq6.true c.archive.ensures c.offset.ensures)) in record { value = whole.0; output_after = whole.1 }
+
+pub returns : goal.returns
+unfolding ascii
+returns c =
+    let whole = both (put_same (told _ _ _ _ _ (c.put_number-2.ensures.value, c.put_number-2.ensures.output_after)) (location-dash _ _ c.if-width-eq6.false)) in record { value = whole.0; output_after = whole.1 }
