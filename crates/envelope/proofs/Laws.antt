@@ -1,7 +1,7 @@
 -- Laws of an envelope whose chunks fill the file: where each stands, and how long the content is.
 use mathlib.Core.Path.{◌≡◌, refl, sym, ap, ap₂, ◌∙◌}
 use mathlib.Core.Bool.{Bool, true, false, not, ◌&&◌, cond}
-use mathlib.Core.List.{List, [], ◌++◌, append-nil}
+use mathlib.Core.List.{List, ◌++◌, append-nil}
 use Prim.Native.Nat.{ℕ, zero, suc, ◌+◌, ◌-◌, ◌*◌, ◌^◌, ◌≤◌, ◌<◌}
 use native.Mathlib.Nat.{zero-add, sub-zero}
 use native.Mathlib.Numerals.{add-one}
@@ -13,8 +13,8 @@ use Rattle.parts.specs.Part.{byte_at, part_at, same_bytes, parts_from}
 use Rattle.parts.proofs.Laws.{part_at-length, part_at-inside}
 use Rattle.numbers.proofs.Laws.{big_at-below}
 use Rattle.md5_end.proofs.EndLaws.{little-length}
-use Rattle.md5.specs.Message.{digest_of, md5, digest_or0, limited}
-use Rattle.md5.proofs.MessageLaws.{short-hashed}
+use Rattle.md5_digest.specs.Message.{digest_of, md5, digest_or0, limited}
+use Rattle.md5_digest.proofs.MessageLaws.{short-hashed}
 use Rattle.refusal.specs.Check.{Check, silent, refused, refused_if, first, first_from}
 use Rattle.refusal.specs.Output.{filled}
 use Rattle.refusal.specs.Number.{chunk_sizes, chunk_hash, decoded_size, hash_limit}

@@ -6,18 +6,18 @@ use Prim.Native.Nat.{ℕ, zero, suc, ◌+◌, ◌-◌, ◌≤◌, ◌<◌}
 use native.Mathlib.Nat.{zero-add, add-zero}
 use native.Mathlib.Omega.{arith}
 use lib.Dec.{eqb}
-use lib.ListN.{length, take, drop, get_or, length-append, take-append-drop, drop_of_length-le}
+use lib.ListN.{length, take, drop, length-append, take-append-drop, drop_of_length-le}
 use lib.Seq.{drop-cons, drop-drop}
 use borrow.Author.Tests.{eqb-true, not-false}
 use Rattle.parts.specs.Part.{byte_at, part_at, same_bytes, parts_from}
 use Rattle.parts.proofs.Laws.{same_bytes-eq}
-use Rattle.md5.specs.Message.{md5}
+use Rattle.md5_digest.specs.Message.{md5}
 use Rattle.refusal.specs.Check.{silent, refused_if, first}
 use Rattle.refusal.specs.Number.{envelope_key, chunk_hash, chunk_mode, decoded_size}
 use Rattle.refusal.proofs.Laws.{silent-test, first-left, first-right, from_each}
 use Rattle.envelope_header.specs.declared.Header.{Header}
 use Rattle.envelope_header.specs.Header.{header_of, tabled, chunk_count, header_length, encoded_size, decoded_size_at, chunk_hash_at, chunk_at, sizes_check, opening}
-use Rattle.envelope.specs.Envelope.{chunk_of, plain_mode, mode_of, content_of, content_by, content, envelope_key_of, limit_check, envelope_key_check}
+use Rattle.envelope.specs.Envelope.{chunk_of, plain_mode, mode_of, content_of, content_by, envelope_key_of, limit_check, envelope_key_check}
 use Rattle.envelope.specs.Envelope.{hash_check, mode_check, decoded_check, chunk_check, chunks_check, content_check}
 use Rattle.envelope.specs.Content.{plain_chunk, plain_chunks, joined, content_at, decoded_from, Opens, OpensTable}
 use Rattle.envelope.proofs.Laws.{judged-sizes, whole, not-empty, inside, content-length}

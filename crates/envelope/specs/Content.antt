@@ -1,6 +1,6 @@
 -- What an envelope that opens is, by its key, its chunks and their contents: rule B17.
 use Rattle.std.specs.Prelude.{◌≡◌, List, [], ◌∷◌, ◌++◌, ℕ, zero, suc, ◌+◌, ◌<◌, length, take, get_or}
-use Rattle.md5.specs.Message.{md5}
+use Rattle.md5_digest.specs.Message.{md5}
 use Rattle.envelope_header.specs.Header.{header_of, chunk_count, header_length, encoded_size, decoded_size_at, chunk_hash_at}
 use Rattle.envelope.specs.Envelope.{plain_mode, content, envelope_key_of}
 

@@ -1,7 +1,7 @@
 -- The content of an envelope s and its checks: rules B6, B7 and B11 to B16.
 use Rattle.std.specs.Prelude.{not, ◌&&◌, cond, List, [], ◌∷◌, ℕ, ◌+◌, ◌-◌, ltb, eqb, length, take, replicate}
 use Rattle.parts.specs.Part.{byte_at, part_at, same_bytes, parts_from}
-use Rattle.md5.specs.Message.{md5, limited}
+use Rattle.md5_digest.specs.Message.{md5, limited}
 use Rattle.refusal.specs.Check.{Check, silent, refused_if, first, first_from}
 use Rattle.refusal.specs.Number.{chunk_hash, chunk_mode, decoded_size, content_output_short, envelope_key}
 use Rattle.refusal.specs.Outcome.{Outcome, answered, after}

@@ -1,6 +1,6 @@
 // The chunks of an envelope, one after the other.
 ghost use Rattle.std.specs.Prelude.{◌≡◌, true, ◌≤◌, length};
-ghost use Rattle.md5.specs.Message.{md5};
+ghost use Rattle.md5_digest.specs.Message.{md5};
 ghost use Rattle.refusal.specs.Check.{check_of, silent};
 ghost use Rattle.refusal.specs.Output.{filled};
 ghost use Rattle.envelope_header.specs.Header as header;

@@ -1,3 +1,5 @@
+#![tactic(auto)]
+
 // BLTE envelopes of plain chunks: their key, the checks of their chunks, and their content.
 ghost use Rattle.std.specs.Prelude.{◌≡◌, length};
 ghost use Rattle.refusal.specs.Check.{check_of, first};
@@ -14,7 +16,7 @@ use refusal::{CONTENT_OUTPUT_SHORT, ENVELOPE_KEY, Refusal, Verdict, Written, ref
 mod chunks;
 
 // An envelope's key by value; zeros beside a refusal.
-#[derive(Drop)]
+#[derive(Clone, Copy)]
 pub struct EnvelopeKey {
     pub verdict: Verdict,
     pub bytes: [u8; 16],
@@ -38,7 +40,7 @@ fn check_key(file: &[u8], h: Header, key: &[u8]) -> Verdict
     if key.len() != 16 {
         return refuse(ENVELOPE_KEY, 0);
     }
-    let hashed = md5::digest(keyed(file, h));
+    let hashed = md5_digest::digest(keyed(file, h));
     let verdict = hashed.verdict;
     let bytes = hashed.bytes;
     if let Verdict::Refused(_) = verdict {
@@ -110,7 +112,7 @@ pub fn envelope_key(file: &[u8]) -> EnvelopeKey
             bytes: [0u8; 16],
         },
         Opened::Passed(h) => {
-            let hashed = md5::digest(keyed(file, h));
+            let hashed = md5_digest::digest(keyed(file, h));
             let verdict = hashed.verdict;
             let bytes = hashed.bytes;
             EnvelopeKey { verdict, bytes }

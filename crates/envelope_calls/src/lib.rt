@@ -1,3 +1,5 @@
+#![tactic(auto)]
+
 // An envelope that is measured and then opened, one call after the other. What opens (rule B17) is what the function ensures of
 // their answers, so that it rests on the contracts of the functions themselves.
 ghost use Rattle.std.specs.Prelude.{◌≡◌, ℕ, length};
@@ -10,7 +12,7 @@ ghost use Rattle.envelope_calls.specs.Opened.{Opened};
 use refusal::Written;
 
 // What `content_length` and `open` answered.
-#[derive(Drop)]
+#[derive(Clone, Copy)]
 pub struct Measured {
     pub length: Written,
     pub opened: Written,

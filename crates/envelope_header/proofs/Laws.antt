@@ -1,22 +1,22 @@
 -- Laws of the header and of the chunks' sizes.
 use mathlib.Core.Path.{◌≡◌, refl, sym, ap, ◌∙◌}
-use mathlib.Core.Bool.{Bool, true, false, not}
+use mathlib.Core.Bool.{Bool, true, false}
 use mathlib.Core.List.{List}
 use mathlib.Core.Logic.{◌⊎◌, inl, inr}
-use Prim.Native.Nat.{ℕ, zero, suc, ◌+◌, ◌-◌, ◌*◌, ◌^◌, ◌≤◌, ◌<◌}
+use Prim.Native.Nat.{ℕ, zero, suc, ◌+◌, ◌-◌, ◌^◌, ◌≤◌, ◌<◌}
 use native.Mathlib.Nat.{sub-zero}
 use native.Mathlib.Numerals.{add-one}
 use native.Mathlib.Omega.{arith}
 use lib.Dec.{eqb}
 use lib.ListN.{length}
-use borrow.Author.Tests.{eq-eqb, ne_eqb, eqb-true, not-false}
+use borrow.Author.Tests.{eq-eqb, ne_eqb}
 use Rattle.parts.specs.Part.{byte_at}
 use Rattle.numbers.specs.Number.{big_at}
 use Rattle.numbers.proofs.Laws.{big_at-below}
 use Rattle.refusal.specs.Check.{Check, silent, refused, refused_if, first, first_from}
 use Rattle.refusal.specs.Number.{chunk_sizes}
-use Rattle.refusal.proofs.Laws.{said, quiet, silent-test, first_said, first-left, first-right, skip, from-said}
-use Rattle.refusal.proofs.Laws.{from-quiet, from-none, from_each, answered-after, refusal-after}
+use Rattle.refusal.proofs.Laws.{said, quiet, first_said, skip, from-said}
+use Rattle.refusal.proofs.Laws.{from-quiet, from-none, answered-after, refusal-after}
 use Rattle.refusal.specs.declared.Refusal.{Refusal}
 use Rattle.refusal.specs.Outcome.{answered, after}
 use Rattle.envelope_header.specs.declared.Header.{Header}

@@ -1,5 +1,5 @@
 -- The header of an envelope s and where its chunks stand: rules B1 to B5 and B8 to B10.
-use Rattle.std.specs.Prelude.{Bool, not, ◌&&◌, ◌||◌, cond, List, [], ◌∷◌, ℕ, zero, suc, ◌+◌, ◌-◌, ◌*◌, ltb, leb, eqb, length, take}
+use Rattle.std.specs.Prelude.{Bool, not, ◌&&◌, ◌||◌, cond, List, [], ◌∷◌, ℕ, zero, suc, ◌+◌, ◌-◌, ◌*◌, leb, eqb, length}
 use Rattle.parts.specs.Part.{byte_at, part_at, same_bytes}
 use Rattle.numbers.specs.Number.{big_at}
 use Rattle.refusal.specs.Check.{Check, refused_if, first, first_from}

@@ -1,3 +1,5 @@
+#![tactic(auto)]
+
 // The header of a BLTE envelope: refusals 20 to 22, and where the chunks stand. specs/Header.antt has the names of the constants
 // as that language writes them.
 ghost use Rattle.std.specs.Prelude.{◌≡◌};
@@ -24,13 +26,13 @@ pub const TABLE_AT: usize = 12;
 pub const ROW_SIZE: usize = 24;
 
 // What a header says: the rows of the chunk table. With none there is no table, and the rest of the file is one chunk.
-#[derive(Drop)]
+#[derive(Clone, Copy)]
 pub struct Header {
     pub rows: u32,
 }
 
 // What opening an envelope answers.
-#[derive(Drop)]
+#[derive(Clone, Copy)]
 pub enum Opened {
     Passed(Header),
     Refused(Refusal),
