@@ -1,17 +1,17 @@
 -- Laws of the checks of a page, and of the pages one after the other.
-use mathlib.Core.Path.{◌≡◌, refl, sym, ap, ◌∙◌}
+use mathlib.Core.Path.{◌≡◌, ap, ◌∙◌}
 use mathlib.Core.Bool.{Bool, true, false, not}
-use mathlib.Core.List.{List, []}
-use Prim.Native.Nat.{ℕ, zero, suc, ◌+◌, ◌-◌, ◌^◌, ◌≤◌, ◌<◌}
+use mathlib.Core.List.{List}
+use Prim.Native.Nat.{ℕ, ◌+◌, ◌-◌, ◌^◌, ◌≤◌, ◌<◌}
 use native.Mathlib.Nat.{sub-zero}
 use native.Mathlib.Numerals.{add-one}
 use native.Mathlib.Omega.{arith}
 use lib.ListN.{length}
-use Rattle.parts.specs.Part.{part_at, same_bytes}
+use Rattle.parts.specs.Part.{same_bytes}
 use Rattle.parts.proofs.Laws.{part_at-length}
-use Rattle.md5.specs.Message.{md5, digest_or0}
-use Rattle.md5.proofs.MessageLaws.{short-hashed}
-use Rattle.refusal.specs.Check.{Check, silent, refused, refused_if, first, first_from}
+use Rattle.md5_digest.specs.Message.{md5, digest_or0}
+use Rattle.md5_digest.proofs.MessageLaws.{short-hashed}
+use Rattle.refusal.specs.Check.{silent, refused, refused_if, first, first_from}
 use Rattle.refusal.specs.Number.{encoding_page_hash, entry_over_page, first_key, encoding_order, spec_number}
 use Rattle.refusal.proofs.Laws.{upto-said, upto-quiet, upto-end}
 use Rattle.encoding_header.specs.declared.Kind.{Kind}
@@ -20,7 +20,7 @@ use Rattle.encoding_header.specs.Header.{table_of, page_size, page_offset, page_
 use Rattle.encoding_header.proofs.Bounds.{TypedHeader, page-most}
 use Rattle.encoding_page.specs.declared.Span.{Span}
 use Rattle.encoding_page.specs.declared.Walked.{Walked}
-use Rattle.encoding_page.specs.Entries.{walk_from, key_at, last_key_before, rising, all, spec_known, starts_with, over_end, span_of, key_span, last_span, entries_of}
+use Rattle.encoding_page.specs.Entries.{walk_from, key_at, rising, all, spec_known, starts_with, over_end, span_of, key_span, last_span, entries_of}
 use Rattle.encoding_page.proofs.Laws.{last-spanned}
 use Rattle.encoding.specs.Check.{key_before, specs_of, hash_right, entry_over, first_key_right, keys_rise, all_specs_known, check_in_order, page_check, pages_check}
 

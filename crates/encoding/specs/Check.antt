@@ -1,7 +1,7 @@
 -- The checks of an encoding file s with header h, in their order: rules E11, E12, E15 and E16.
 use Rattle.std.specs.Prelude.{Bool, not, List, [], ℕ, zero, suc}
 use Rattle.parts.specs.Part.{same_bytes}
-use Rattle.md5.specs.Message.{md5}
+use Rattle.md5_digest.specs.Message.{md5}
 use Rattle.refusal.specs.Check.{Check, refused_if, first, first_from}
 use Rattle.refusal.specs.Number.{encoding_page_hash, entry_over_page, first_key, encoding_order, spec_number}
 use Rattle.spec_table.specs.Specs.{count_of}

@@ -1,7 +1,9 @@
+#![tactic(auto)]
+
 // The full check of an encoding file.
 ghost use Rattle.std.specs.Prelude.{◌≡◌, ◌+◌};
 ghost use Rattle.parts.specs.Part.{same_bytes};
-ghost use Rattle.md5.specs.Message.{md5};
+ghost use Rattle.md5_digest.specs.Message.{md5};
 ghost use Rattle.refusal.specs.Check.{check_of};
 ghost use Rattle.encoding_header.specs.Header as header;
 ghost use Rattle.encoding_page.specs.Entries as entries;
@@ -16,7 +18,7 @@ use refusal::{
 };
 
 // What judging a page tells: the verdict, and the last key up to its end.
-#[derive(Drop)]
+#[derive(Clone, Copy)]
 struct Judged {
     verdict: Verdict,
     last: Span,

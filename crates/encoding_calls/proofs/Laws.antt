@@ -1,10 +1,9 @@
 -- What a lookup after the checks tells.
 use mathlib.Core.Path.{◌≡◌, refl, sym, ap, ap₂, ◌∙◌}
 use mathlib.Core.List.{List, [], ◌∷◌}
-use Prim.Native.Nat.{ℕ, ◌≤◌, ◌<◌}
+use Prim.Native.Nat.{ℕ, ◌<◌}
 use native.Mathlib.Decide.{dec_lt}
 use native.Mathlib.Omega.{arith}
-use lib.Dec.{eqb}
 use lib.ListN.{length}
 use borrow.Author.Tests.{eqb-true, not-false}
 use Rattle.parts.specs.Part.{part_at}
@@ -18,7 +17,7 @@ use Rattle.encoding_header.specs.Header.{header_of, table_of, opening}
 use Rattle.encoding.specs.Check.{full_check}
 use Rattle.encoding_lookup.specs.Lookup.{length_check, lookup_check, content_lookup, encoding_lookup, told_value}
 use Rattle.encoding_lookup.specs.Lookup.{spec_at, spec_length, spec_lookup, spec_string, spec_string_at}
-use Rattle.encoding_agreement.specs.Plain.{plain_content, plain_encoding, specs_in, plain_spec}
+use Rattle.encoding_agreement.specs.Plain.{plain_content, plain_encoding, specs_in}
 use Rattle.encoding_agreement.specs.Agreement.{SpecAgrees}
 use Rattle.encoding_agreement.proofs.Agreement.{content-agrees, encoding-agrees}
 use Rattle.encoding_agreement.proofs.Specs.{spec-agrees}

@@ -1,3 +1,5 @@
+#![tactic(auto)]
+
 // The lookups of an encoding file after its full check, and a spec by its number after 30 to 33, one call after the other. Rule E25
 // is what these functions ensure of the answers and of the parts that are returned, so that it rests on the contracts of the
 // functions themselves.

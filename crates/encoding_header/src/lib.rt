@@ -1,3 +1,5 @@
+#![tactic(auto)]
+
 // The header of an encoding file: refusals 30 to 33, and where its parts stand. Every value of a header is answered for: the
 // types keep each sum and product within its range. specs/Header.antt has the same names, as that language writes them.
 ghost use Rattle.std.specs.Prelude.{◌≡◌, ◌+◌, min, length};
@@ -44,14 +46,14 @@ pub const KB: usize = 1024;
 pub const HASH_SIZE: usize = 16;
 
 // The two kinds of pages: content keys with their encoding keys, and encoding keys with their specs.
-#[derive(Drop)]
+#[derive(Clone, Copy)]
 pub enum Kind {
     Content,
     Encoding,
 }
 
 // What a header says of the pages of one kind, and of their index.
-#[derive(Drop)]
+#[derive(Clone, Copy)]
 pub struct Table {
     pub key_size: u8,
     pub page_kb: u16,
@@ -59,7 +61,7 @@ pub struct Table {
 }
 
 // What a header says.
-#[derive(Drop)]
+#[derive(Clone, Copy)]
 pub struct Header {
     pub content: Table,
     pub encoding: Table,
@@ -67,7 +69,7 @@ pub struct Header {
 }
 
 // What opening an encoding file answers.
-#[derive(Drop)]
+#[derive(Clone, Copy)]
 pub enum Opened {
     Passed(Header),
     Refused(Refusal),

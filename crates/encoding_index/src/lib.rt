@@ -1,3 +1,5 @@
+#![tactic(auto)]
+
 // The page of an encoding file that a lookup searches, by the first keys of the pages' index. Nobody has checked their order, so
 // they are read one by one from the last.
 ghost use Rattle.std.specs.Prelude.{◌≡◌};

@@ -14,7 +14,7 @@ use Rattle.spec_table.proofs.Table.{start-inside}
 use Rattle.encoding_header.specs.declared.Kind.{Kind}
 use Rattle.encoding_header.specs.declared.Kind.TheVariants.{Content, Encoding}
 use Rattle.encoding_header.specs.declared.Header.{Header}
-use Rattle.encoding_header.specs.Header.{header_size, header_of, table_of, index_at, table_size, page_offset, page_end, end_of, spec_table, opening}
+use Rattle.encoding_header.specs.Header.{header_size, header_of, table_of, index_at, page_offset, page_end, end_of, spec_table, opening}
 use Rattle.encoding_header.proofs.Laws.{whole, page-end}
 use Rattle.encoding_page.specs.declared.Search.{Search}
 use Rattle.encoding_page.specs.declared.Search.TheVariants.{At, End}

@@ -2,23 +2,22 @@
 use mathlib.Core.Path.{◌≡◌, refl, sym, ap, ap₂, ◌∙◌}
 use mathlib.Core.Bool.{Bool, true, false, not, cond}
 use mathlib.Core.List.{List, [], ◌∷◌}
-use Prim.Native.Nat.{ℕ, zero, suc, ◌+◌, ◌-◌, ◌*◌, ◌^◌, ◌≤◌, ◌<◌}
+use Prim.Native.Nat.{ℕ, zero, suc, ◌+◌, ◌-◌, ◌^◌, ◌≤◌, ◌<◌}
 use native.Mathlib.Decide.{dec_lt}
 use native.Mathlib.Omega.{arith}
-use lib.Dec.{ltb, eqb}
+use lib.Dec.{ltb}
 use lib.ListN.{length}
 use borrow.Author.Tests.{lt-ltb, le-ltb, eq-eqb, ne_eqb}
-use Rattle.parts.specs.Part.{byte_at, part_at}
+use Rattle.parts.specs.Part.{part_at}
 use Rattle.numbers.specs.Number.{big_at}
-use Rattle.refusal.specs.Check.{Check, silent, refused, refused_if, first}
-use Rattle.refusal.specs.Number.{encoding_key_length, entry_over_page, spec_number}
+use Rattle.refusal.specs.Check.{Check, silent, refused, first}
+use Rattle.refusal.specs.Number.{encoding_key_length, spec_number}
 use Rattle.refusal.specs.Outcome.{Outcome, answered, refusal, after}
 use Rattle.refusal.specs.declared.Refusal.{Refusal}
 use Rattle.refusal.proofs.Laws.{said, quiet, skip, after-said, after-quiet}
 use Rattle.spec_table.specs.Specs.{count_of, start_of, length_at}
 use Rattle.spec_table.proofs.Table.{spec-closed, spec-past}
 use Rattle.encoding_header.specs.declared.Kind.{Kind}
-use Rattle.encoding_header.specs.declared.Kind.TheVariants.{Content, Encoding}
 use Rattle.encoding_header.specs.declared.Table.{Table}
 use Rattle.encoding_header.specs.declared.Header.{Header}
 use Rattle.encoding_header.specs.declared.Opened.{Opened}

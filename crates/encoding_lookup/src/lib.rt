@@ -1,3 +1,5 @@
+#![tactic(auto)]
+
 // Lookups in an encoding file: of a content key, of an encoding key, and of a spec by its number. They make only the checks named
 // for them; no page is checked.
 ghost use Rattle.std.specs.Prelude.{◌≡◌, ℕ, ◌+◌, ◌<◌, ◌^◌};
@@ -13,7 +15,7 @@ use parts::{byte, part};
 use refusal::{ENCODING_KEY_LENGTH, ENTRY_OVER_PAGE, Refusal, SPEC_NUMBER};
 
 // What a content entry tells: the decoded size, the number of encoding keys, and the place and length of their run in the file.
-#[derive(Drop)]
+#[derive(Clone, Copy)]
 pub struct Content {
     pub size: u64,
     pub keys: u32,
@@ -22,7 +24,7 @@ pub struct Content {
 }
 
 // What the lookup of a content key answers.
-#[derive(Drop)]
+#[derive(Clone, Copy)]
 pub enum ContentFound {
     Found(Content),
     Absent,
@@ -30,7 +32,7 @@ pub enum ContentFound {
 }
 
 // What an encoding entry tells: the number of its spec, the encoded size, and the place and length of the spec in the file.
-#[derive(Drop)]
+#[derive(Clone, Copy)]
 pub struct Encoded {
     pub spec: u32,
     pub size: u64,
@@ -39,7 +41,7 @@ pub struct Encoded {
 }
 
 // What the lookup of an encoding key answers.
-#[derive(Drop)]
+#[derive(Clone, Copy)]
 pub enum EncodingFound {
     Found(Encoded),
     Absent,
@@ -47,21 +49,21 @@ pub enum EncodingFound {
 }
 
 // The place and length of a spec in the file, without its zero byte.
-#[derive(Drop)]
+#[derive(Clone, Copy)]
 pub struct Spec {
     pub at: usize,
     pub length: usize,
 }
 
 // What asking for a spec by its number answers.
-#[derive(Drop)]
+#[derive(Clone, Copy)]
 pub enum SpecFound {
     Found(Spec),
     Refused(Refusal),
 }
 
 // Where a search ends: at an entry, nowhere, or before an entry over the end of a page.
-#[derive(Drop)]
+#[derive(Clone, Copy)]
 enum Seek {
     Entry(usize),
     Nowhere,

@@ -1,8 +1,8 @@
 -- Laws of a page's entries, one over both kinds.
-use mathlib.Core.Path.{◌≡◌, refl, sym, ap, ap₂, ◌∙◌}
+use mathlib.Core.Path.{◌≡◌, refl, sym, ap, ◌∙◌}
 use mathlib.Core.Bool.{Bool, true, false, not, ◌&&◌, ◌||◌, cond, false≢true}
 use mathlib.Core.List.{List, [], ◌∷◌}
-use Prim.Native.Nat.{ℕ, zero, suc, ◌+◌, ◌-◌, ◌*◌, ◌≤◌, ◌<◌}
+use Prim.Native.Nat.{ℕ, zero, suc, ◌+◌, ◌-◌, ◌≤◌, ◌<◌}
 use native.Mathlib.Nat.{add-zero, le_refl}
 use native.Mathlib.Omega.{arith}
 use lib.Dec.{ltb, eqb}
@@ -14,7 +14,6 @@ use Rattle.encoding_header.specs.declared.Kind.TheVariants.{Content, Encoding}
 use Rattle.encoding_header.specs.declared.Header.{Header}
 use Rattle.encoding_header.specs.Header.{table_of}
 use Rattle.encoding_page.specs.declared.Span.{Span}
-use Rattle.encoding_page.specs.declared.Search.{Search}
 use Rattle.encoding_page.specs.declared.Search.TheVariants.{At, End}
 use Rattle.encoding_page.specs.Entries.{key_offset, size_of_key, entry_size, key_at, spec_number_at, no_spec_number, padding, ended, Walk, turn, walk_by, walk_from}
 use Rattle.encoding_page.specs.Entries.{head_or, next_entry, rises_to, rising, last_key_before, all, spec_known, starts_with, over_end, search_in, searched}

@@ -1,3 +1,5 @@
+#![tactic(auto)]
+
 // The entries of a page of an encoding file, of either kind. A page is told by where it ends in the file, and an entry by its
 // offset in the file. specs/Entries.antt has the names of the constants as that language writes them.
 ghost use Rattle.std.specs.Prelude.{◌≡◌, ◌&&◌, ℕ, ◌+◌, ◌≤◌, ◌<◌, ◌^◌};
@@ -20,7 +22,7 @@ pub const SPEC_WIDTH: usize = 4;
 pub const NO_SPEC: u64 = 4_294_967_295;
 
 // A part of the file, by its place and length.
-#[derive(Drop)]
+#[derive(Clone, Copy)]
 pub struct Span {
     pub at: usize,
     pub size: u8,
@@ -28,7 +30,7 @@ pub struct Span {
 
 // What reading a page's entries tells: where they end, the last key, whether the keys rise, and whether each spec number has a
 // spec.
-#[derive(Drop)]
+#[derive(Clone, Copy)]
 pub struct Walked {
     pub end: usize,
     pub last: Span,
@@ -37,7 +39,7 @@ pub struct Walked {
 }
 
 // What the search for a key among a page's entries tells: the entry that has it, or where the entries end.
-#[derive(Drop)]
+#[derive(Clone, Copy)]
 pub enum Search {
     At(usize),
     End(usize),

@@ -7,7 +7,7 @@ use Rattle.parts.specs.Part.{overlay, same_bytes, all_zero, parts_from}
 use Rattle.numbers.specs.Number.{big_at, within}
 use Rattle.key.specs.Order.{compared, decided}
 use Rattle.md5_block.specs.Block.{addends, shifts, mixed, word_number, turned, step, steps, word, words_of, sum, block, blocks}
-use Rattle.md5.specs.Message.{little_bytes, padding as md5_padding, initial, digest_of, md5}
+use Rattle.md5_digest.specs.Message.{little_bytes, padding as md5_padding, initial, digest_of, md5}
 use Rattle.refusal.specs.Check.{silent, refused_if, first, first_from}
 use Rattle.text.specs.Text.{ascii}
 use Rattle.spec_table.specs.Specs.{run_of, count_of, start_of, before_zero, length_at}

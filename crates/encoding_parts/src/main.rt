@@ -1,3 +1,5 @@
+#![tactic(auto)]
+
 // Runs every function that returns a part of an encoding file, on the small file of specs/File.antt, which has two equal specs: for
 // each question what the lookup tells, with the place and length of the part, and then the bytes of the part that is returned.
 ghost use Rattle.std.specs.Prelude.{◌≡◌};
@@ -11,6 +13,8 @@ use encoding_lookup::{
 };
 use parts::{copy, part};
 use refusal::{Refusal, Verdict};
+use std::io;
+use std::io::Write;
 use text::put_hex;
 
 // A file with a part laid over it.
@@ -62,123 +66,125 @@ fn encoding_file() -> [u8; 2110]
     encoding_entries(encoding_index)
 }
 
-fn put(text: &[u8]) {
-    io::write_all(libc::STDOUT_FILENO, text);
+fn put(out: &mut impl Write, text: &[u8]) -> io::Result<()> {
+    out.write_all(text)
 }
 
-fn put_number(n: usize) {
-    io::print_decimal(libc::STDOUT_FILENO, n as u64);
+fn put_number(out: &mut impl Write, n: usize) -> io::Result<()> {
+    write!(out, "{n}")
 }
 
 // Up to 32 bytes in hex.
-fn put_bytes(bytes: &[u8]) {
+fn put_bytes(out: &mut impl Write, bytes: &[u8]) -> io::Result<()> {
     let mut digits = [0u8; 64];
     let end = put_hex(bytes, &mut digits, 0);
-    put(part(&digits, 0, end));
+    put(out, part(&digits, 0, end))
 }
 
-fn put_place(at: usize, length: usize) {
-    put(b" found at ");
-    put_number(at);
-    put(b" length ");
-    put_number(length);
+fn put_place(out: &mut impl Write, at: usize, length: usize) -> io::Result<()> {
+    put(out, b" found at ")?;
+    put_number(out, at)?;
+    put(out, b" length ")?;
+    put_number(out, length)
 }
 
-fn put_refusal(r: Refusal) {
-    put(b" refused ");
-    put_number(r.number as usize);
-    put(b" ");
-    put_number(r.place);
+fn put_refusal(out: &mut impl Write, r: Refusal) -> io::Result<()> {
+    put(out, b" refused ")?;
+    put_number(out, r.number as usize)?;
+    put(out, b" ")?;
+    put_number(out, r.place)
 }
 
 // The part that was returned.
-fn put_part(bytes: &[u8]) {
-    put(b": ");
-    put_bytes(bytes);
-    put(b"\n");
+fn put_part(out: &mut impl Write, bytes: &[u8]) -> io::Result<()> {
+    put(out, b": ")?;
+    put_bytes(out, bytes)?;
+    put(out, b"\n")
 }
 
-fn content_line(file: &[u8], key: &[u8]) {
-    put(b"content key ");
-    put_bytes(key);
+fn content_line(out: &mut impl Write, file: &[u8], key: &[u8]) -> io::Result<()> {
+    put(out, b"content key ")?;
+    put_bytes(out, key)?;
     match find_content(file, key) {
-        ContentFound::Found(c) => put_place(c.at, c.length),
-        ContentFound::Absent => put(b" absent"),
-        ContentFound::Refused(r) => put_refusal(r),
+        ContentFound::Found(c) => put_place(out, c.at, c.length)?,
+        ContentFound::Absent => put(out, b" absent")?,
+        ContentFound::Refused(r) => put_refusal(out, r)?,
     }
-    put_part(encoding_keys(file, key));
+    put_part(out, encoding_keys(file, key))
 }
 
-fn encoding_line(file: &[u8], key: &[u8]) {
-    put(b"encoding key ");
-    put_bytes(key);
+fn encoding_line(out: &mut impl Write, file: &[u8], key: &[u8]) -> io::Result<()> {
+    put(out, b"encoding key ")?;
+    put_bytes(out, key)?;
     match find_encoding(file, key) {
-        EncodingFound::Found(e) => put_place(e.at, e.length),
-        EncodingFound::Absent => put(b" absent"),
-        EncodingFound::Refused(r) => put_refusal(r),
+        EncodingFound::Found(e) => put_place(out, e.at, e.length)?,
+        EncodingFound::Absent => put(out, b" absent")?,
+        EncodingFound::Refused(r) => put_refusal(out, r)?,
     }
-    put_part(encoding_spec(file, key));
+    put_part(out, encoding_spec(file, key))
 }
 
-fn spec_line(file: &[u8], number: u32) {
-    put(b"spec ");
-    put_number(number as usize);
+fn spec_line(out: &mut impl Write, file: &[u8], number: u32) -> io::Result<()> {
+    put(out, b"spec ")?;
+    put_number(out, number as usize)?;
     match find_spec(file, number) {
-        SpecFound::Found(s) => put_place(s.at, s.length),
-        SpecFound::Refused(r) => put_refusal(r),
+        SpecFound::Found(s) => put_place(out, s.at, s.length)?,
+        SpecFound::Refused(r) => put_refusal(out, r)?,
     }
-    put_part(spec_string(file, number));
+    put_part(out, spec_string(file, number))
 }
 
-fn string_line(table: &[u8], number: u32) {
-    put(b"string ");
-    put_number(number as usize);
-    put(b" at ");
-    put_number(spec_table::start(table, number));
-    put_part(spec_table::string(table, number));
+fn string_line(out: &mut impl Write, table: &[u8], number: u32) -> io::Result<()> {
+    put(out, b"string ")?;
+    put_number(out, number as usize)?;
+    put(out, b" at ")?;
+    put_number(out, spec_table::start(table, number))?;
+    put_part(out, spec_table::string(table, number))
 }
 
-fn keys(file: &[u8]) {
-    content_line(file, &[5]);
-    content_line(file, &[7]);
-    content_line(file, &[6]);
-    content_line(file, &[5, 5]);
-    encoding_line(file, &[17]);
-    encoding_line(file, &[33]);
-    encoding_line(file, &[34]);
-    encoding_line(file, &[18]);
-    encoding_line(file, &[]);
+fn keys(out: &mut impl Write, file: &[u8]) -> io::Result<()> {
+    content_line(out, file, &[5])?;
+    content_line(out, file, &[7])?;
+    content_line(out, file, &[6])?;
+    content_line(out, file, &[5, 5])?;
+    encoding_line(out, file, &[17])?;
+    encoding_line(out, file, &[33])?;
+    encoding_line(out, file, &[34])?;
+    encoding_line(out, file, &[18])?;
+    encoding_line(out, file, &[])
 }
 
-fn specs(file: &[u8]) {
-    spec_line(file, 0);
-    spec_line(file, 1);
-    spec_line(file, 2);
-    spec_line(file, 3);
+fn specs(out: &mut impl Write, file: &[u8]) -> io::Result<()> {
+    spec_line(out, file, 0)?;
+    spec_line(out, file, 1)?;
+    spec_line(out, file, 2)?;
+    spec_line(out, file, 3)
 }
 
-fn strings(file: &[u8]) {
+fn strings(out: &mut impl Write, file: &[u8]) -> io::Result<()> {
     if let Opened::Passed(h) = encoding_header::open(file) {
         let table = encoding_header::spec_table(file, h);
-        string_line(table, 0);
-        string_line(table, 1);
-        string_line(table, 2);
-        string_line(table, 3);
+        string_line(out, table, 0)?;
+        string_line(out, table, 1)?;
+        string_line(out, table, 2)?;
+        string_line(out, table, 3)?;
     }
+    Ok(())
 }
 
-fn main() {
+fn main(rt: HostRuntime) -> io::Result<()> {
+    let mut out = io::writer(&rt);
     let file = encoding_file();
     match encoding::check(&file) {
-        Verdict::Passed => put(b"passed\n"),
-        Verdict::Refused(_) => put(b"refused\n"),
+        Verdict::Passed => put(&mut out, b"passed\n")?,
+        Verdict::Refused(_) => put(&mut out, b"refused\n")?,
     }
-    keys(&file);
-    specs(&file);
-    strings(&file);
-    put(b"a file of 2109 bytes\n");
+    keys(&mut out, &file)?;
+    specs(&mut out, &file)?;
+    strings(&mut out, &file)?;
+    put(&mut out, b"a file of 2109 bytes\n")?;
     let cut = part(&file, 0, 2109);
-    content_line(cut, &[5]);
-    encoding_line(cut, &[17]);
-    spec_line(cut, 0);
+    content_line(&mut out, cut, &[5])?;
+    encoding_line(&mut out, cut, &[17])?;
+    spec_line(&mut out, cut, 0)
 }

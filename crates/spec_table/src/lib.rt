@@ -1,3 +1,5 @@
+#![tactic(auto)]
+
 // The spec table of an encoding file: a run of strings, each closed by a zero byte. Any bytes are answered for.
 ghost use Rattle.std.specs.Prelude.{◌≡◌, ◌+◌, ◌^◌, ◌≤◌, ◌<◌, length, drop};
 ghost use Rattle.parts.specs.Part.{part_at};
@@ -9,7 +11,7 @@ use parts::part;
 const BLOCK: usize = 1024;
 
 // A place in the table, and how many zero bytes stand between it and a string.
-#[derive(Drop)]
+#[derive(Clone, Copy)]
 struct Place {
     at: usize,
     left: u32,
