@@ -1,3 +1,5 @@
+#![tactic(auto)]
+
 // A list of ids: big-endian numbers of four bytes that rise, equal neighbours allowed.
 ghost use Rattle.std.specs.Prelude.{◌≡◌, [], ◌∷◌, ◌<◌};
 ghost use Rattle.numbers.specs.Number.{big_at};

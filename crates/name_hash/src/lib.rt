@@ -1,3 +1,5 @@
+#![tactic(auto)]
+
 // Name hashes: hashlittle2 of a path in capitals, with backslashes.
 ghost use Rattle.std.specs.Prelude.{◌≡◌, ◌+◌, ◌*◌, ◌<◌, ◌≤◌, length, replicate};
 ghost use Rattle.parts.specs.Part.{overlay};
@@ -16,14 +18,14 @@ pub const MOST_PATH: usize = 1024;
 const SHORT_PATH: usize = 128;
 
 // The name hash of a path, or why it has none.
-#[derive(Drop)]
+#[derive(Clone, Copy)]
 pub enum Hashed {
     Hash(u64),
     Refused(Refusal),
 }
 
 // a, b and c of hashlittle2.
-#[derive(Drop)]
+#[derive(Clone, Copy)]
 pub struct Words {
     pub a: u32,
     pub b: u32,

@@ -19,7 +19,6 @@ use Rattle.refusal.proofs.Laws.{first-left, first-right, after-quiet}
 use Rattle.root_layout.specs.declared.Layout.{Layout}
 use Rattle.root_layout.specs.Header.{layout_of}
 use Rattle.root_block.specs.Ids.{delta_at, id_at, in_range, ids_check}
-use Rattle.root_block.specs.Block as block
 use Rattle.root_block.specs.Block.{block_of, deltas_of, block_check, counts}
 use Rattle.root_block.proofs.Laws.{block-ids}
 use Rattle.root_block.proofs.Signed.{reckoned}
@@ -52,15 +51,15 @@ module _ (s : List ℕ) (l : Layout) (want : Record → Bool) (at : ℕ) where
   block-skipped e i (suc n) tail = not-wanted want (record_at s l at i) _ (e i) ∙ block-skipped e (suc i) n tail
 
 -- Before record i of n: the id before it, and no record before it is wanted.
-pub record Passing (s : List ℕ) (l : Layout) (want : Record → Bool) (at n i last : ℕ) : Type 0 where
-  pub before : to_z w64 last ≡ id_before (deltas_of l (drop at s)) i
+pub record Passing (s : List ℕ) (l : Layout) (want : Record → Bool) (at n i : ℕ) (last : ℤ) : Type 0 where
+  pub before : last ≡ id_before (deltas_of l (drop at s)) i
   pub passed : (tail : List Record) → first_of want (records_from s l at 0 n ++ tail) ≡ first_of want (records_from s l at i (n - i) ++ tail)
 
-pub passing-none : (s : List ℕ) (l : Layout) (want : Record → Bool) (at n : ℕ) → Passing s l want at n 0 18446744073709551615
+pub passing-none : (s : List ℕ) (l : Layout) (want : Record → Bool) (at n : ℕ) → Passing s l want at n 0 (negsuc 0)
 unfolding id_before
 passing-none s l want at n = record { before = refl; passed = λ tail. rw sub-zero }
 
-pub passing-all : {s : List ℕ} {l : Layout} {want : Record → Bool} {at n i last : ℕ} → Passing s l want at n i last → i ≡ n
+pub passing-all : {s : List ℕ} {l : Layout} {want : Record → Bool} {at n i : ℕ} {last : ℤ} → Passing s l want at n i last → i ≡ n
     → (tail : List Record) → first_of want (records_from s l at 0 n ++ tail) ≡ first_of want tail
 unfolding records_from
 passing-all {s} {l} {want} {at} {n} {i} p e tail =
@@ -94,8 +93,8 @@ module _ (s : List ℕ) (l : Layout) (at n i last : ℕ)
     pub next-before : to_z w64 (of_z w64 (reckoned last r)) ≡ id_before (deltas_of l (drop at s)) (i + 1)
     next-before = ids.next-before _ _ at ids-pass i last before less r small q
 
-module _ {s : List ℕ} {l : Layout} {want : Record → Bool} {at n i last : ℕ}
-    (p : Passing s l want at n i last)
+module _ {s : List ℕ} {l : Layout} {want : Record → Bool} {at n i : ℕ} (last : ℕ)
+    (p : Passing s l want at n i (to_z w64 last))
     (e : block_check l (drop at s) at ≡ silent) (c : n ≡ (block_of l (drop at s)).count) (h : i < n)
     (r : ℤ) (small : mag r < 2147483648) where
   pub last_fits : SFits w64 (to_z w64 last +ℤ pos 1)
@@ -118,7 +117,7 @@ module _ {s : List ℕ} {l : Layout} {want : Record → Bool} {at n i last : ℕ
   passing-found t tail = here tail ∙ is_wanted want (record_at s l at i) _ t
 
   module _ (q : r ≡ delta_at (deltas_of l (drop at s)) i) where
-    pub passing-next : want (record_at s l at i) ≡ false → Passing s l want at n (i + 1) (of_z w64 (reckoned last r))
+    pub passing-next : want (record_at s l at i) ≡ false → Passing s l want at n (i + 1) (to_z w64 (of_z w64 (reckoned last r)))
     passing-next other = record {
       before = next-before s l at n i last p.before e c h r small q;
       passed = λ tail. here tail ∙ not-wanted want (record_at s l at i) _ other;
@@ -167,8 +166,8 @@ unfolding record_at wanted
 uncounted s l id locale unwanted at e i = ap (λ t. t && is_id id (record_at s l at i).id) e
 
 -- in one that counts, record i is wanted if its id, as the code reckons it, is the sought one
-module _ {s : List ℕ} {l : Layout} {want : Record → Bool} {at n i last : ℕ}
-    (p : Passing s l want at n i last)
+module _ {s : List ℕ} {l : Layout} {want : Record → Bool} {at n i : ℕ} (last : ℕ)
+    (p : Passing s l want at n i (to_z w64 last))
     (e : block_check l (drop at s) at ≡ silent) (c : n ≡ (block_of l (drop at s)).count) (h : i < n)
     (r : ℤ) (small : mag r < 2147483648) (q : r ≡ delta_at (deltas_of l (drop at s)) i)
     (id locale unwanted : ℕ) (counted : counts locale unwanted (block_of l (drop at s)) ≡ true) where

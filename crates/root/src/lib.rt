@@ -1,3 +1,5 @@
+#![tactic(auto)]
+
 // Root files: the walk over their blocks, the check of a whole file, and the lookup of a file number.
 ghost use Rattle.std.specs.Prelude.{◌≡◌, replicate};
 ghost use Rattle.refusal.specs.Check.{check_of, silent};
@@ -12,7 +14,7 @@ use root_block::{Block, DELTA_SIZE, KEY_SIZE};
 use root_layout::{Layout, Opened};
 
 // What a lookup answers: where the content key stands in the file.
-#[derive(Drop)]
+#[derive(Clone, Copy)]
 pub enum Answer {
     Key(usize),
     Absent,
@@ -20,7 +22,7 @@ pub enum Answer {
 }
 
 // The answer of a lookup, and the content key by value; zeros where none is found.
-#[derive(Drop)]
+#[derive(Clone, Copy)]
 pub struct Found {
     pub answer: Answer,
     pub key: [u8; 16],

@@ -46,16 +46,16 @@ near-range (pos n) e = leb-true n most_id e
 near-range (negsuc n) e = absurd (false≢true e)
 
 -- The ids before id i are in range, and the last of them is at hand.
-pub record Reckoned (d : List ℕ) (n place i id : ℕ) : Type 0 where
-  pub last : to_z w64 id ≡ id_before d i
-  pub near : mag (to_z w64 id) ≤ most_id
+pub record Reckoned (d : List ℕ) (n place i : ℕ) (id : ℤ) : Type 0 where
+  pub last : id ≡ id_before d i
+  pub near : mag id ≤ most_id
   pub rest : ids_check d n place ≡ first_from (id_check d place) i (n - i)
 
-pub reckoned-none : (d : List ℕ) (n place : ℕ) → Reckoned d n place 0 18446744073709551615
+pub reckoned-none : (d : List ℕ) (n place : ℕ) → Reckoned d n place 0 (negsuc 0)
 unfolding id_before ids_check
 reckoned-none d n place = record { last = refl; near = omega arith; rest = rw sub-zero }
 
-module _ {d : List ℕ} {n place i id : ℕ} (g : Reckoned d n place i id) where
+module _ {d : List ℕ} {n place i : ℕ} (id : ℕ) (g : Reckoned d n place i (to_z w64 id)) where
   pub all-reckoned : n ≤ i → ids_check d n place ≡ silent
   all-reckoned l = g.rest ∙ upto-end (id_check d place) i n l
 
@@ -85,7 +85,7 @@ module _ {d : List ℕ} {n place i id : ℕ} (g : Reckoned d n place i id) where
       id-refused f = g.rest ∙ upto-said (id_check d place) i n l (said refl (judged f))
 
       -- one in range is the last
-      pub id-taken : in_range (to_z w64 (of_z w64 (reckoned id r))) ≡ true → Reckoned d n place (i + 1) (of_z w64 (reckoned id r))
+      pub id-taken : in_range (to_z w64 (of_z w64 (reckoned id r))) ≡ true → Reckoned d n place (i + 1) (to_z w64 (of_z w64 (reckoned id r)))
       unfolding id_before id_check
       id-taken f = record {
         last = next ∙ sym (ap (id_before d) (add-one i));

@@ -1,3 +1,5 @@
+#![tactic(auto)]
+
 // A block of a root file under a layout: its header, its size, its ids, and where its keys and name hashes stand. The bytes lent
 // begin with the block; what follows it does not matter. specs/Block.antt and specs/Ids.antt have the names of the constants as that
 // language writes them.
@@ -21,7 +23,7 @@ pub const KEY_SIZE: usize = 16;
 pub const NAME_HASH_SIZE: usize = 8;
 
 // What the header of a block says.
-#[derive(Drop)]
+#[derive(Clone, Copy)]
 pub struct Block {
     pub count: u32,
     pub locale: u32,

@@ -1,3 +1,5 @@
+#![tactic(auto)]
+
 // The check of a root file and the lookup of a file number in it, one call after the other. That the first record is found is what
 // `look` ensures of their answers, so that it rests on the contracts of the functions themselves.
 ghost use Rattle.std.specs.Prelude.{◌≡◌};
@@ -11,7 +13,7 @@ use refusal::Verdict;
 use root::Found;
 
 // What the check and the lookup answered.
-#[derive(Drop)]
+#[derive(Clone, Copy)]
 pub struct Looked {
     pub checked: Verdict,
     pub found: Found,

@@ -109,8 +109,8 @@ module _ (s : List ℕ) (l : Layout) (at : ℕ) where
       ∙ ap (λ j. records_from s l at 0 n ++ (record_at s l at j ∷ [])) (zero-add n)
 
 -- Before record i of the block at a byte: the id before it, and each entry after the records before it.
-pub record Passing (s : List ℕ) (l : Layout) (at i last : ℕ) (ids old new : List ℕ) : Type 0 where
-  pub before : to_z w64 last ≡ id_before (deltas_of l (drop at s)) i
+pub record Passing (s : List ℕ) (l : Layout) (at i : ℕ) (last : ℤ) (ids old new : List ℕ) : Type 0 where
+  pub before : last ≡ id_before (deltas_of l (drop at s)) i
   pub kept : Kept ids old new
   pub held : (locale unwanted : ℕ) → counts locale unwanted (block_of l (drop at s)) ≡ true
       → (seen : List Record) → Held ids old (entry_by s locale unwanted seen) → Held ids new (entry_by s locale unwanted (seen ++ records_from s l at 0 i))
@@ -119,7 +119,7 @@ held_same : {ids out : List ℕ} {f g : ℕ → List ℕ} → ((x : ℕ) → f x
 held_same e h = record { each = λ j l. h.each j l ∙ e _ }
 
 module _ (s : List ℕ) (l : Layout) (at : ℕ) (ids old : List ℕ) where
-  pub passing-none : Passing s l at 0 18446744073709551615 ids old old
+  pub passing-none : Passing s l at 0 (negsuc 0) ids old old
   unfolding id_before records_from
   passing-none = record {
     before = refl;
@@ -139,14 +139,14 @@ module _ (s : List ℕ) (l : Layout) (at : ℕ) (ids old : List ℕ) where
   }
 
 -- a block whose records are all seen
-pub passing-all : {s : List ℕ} {l : Layout} {at i last : ℕ} {ids old new : List ℕ} → Passing s l at i last ids old new
+pub passing-all : {s : List ℕ} {l : Layout} {at i : ℕ} {last : ℤ} {ids old new : List ℕ} → Passing s l at i last ids old new
     → i ≡ (block_of l (drop at s)).count → (locale unwanted : ℕ) → counts locale unwanted (block_of l (drop at s)) ≡ true
     → BlockPut s l at locale unwanted ids old new
 passing-all {s} {l} {at} {ids = ids} {new = new} p e locale unwanted t = record {
   held = λ seen h. subst (λ n. Held ids new (entry_by s locale unwanted (seen ++ records_from s l at 0 n))) e (p.held locale unwanted t seen h);
 }
 
-module _ {s : List ℕ} {l : Layout} {at i last : ℕ} {ids old new : List ℕ} (p : Passing s l at i last ids old new)
+module _ {s : List ℕ} {l : Layout} {at i : ℕ} {ids old new : List ℕ} (last : ℕ) (p : Passing s l at i (to_z w64 last) ids old new)
     (e : block_check l (drop at s) at ≡ silent) (n : ℕ) (c : n ≡ (block_of l (drop at s)).count) (h : i < n)
     (r : ℤ) (small : mag r < 2147483648) where
   pub seen-fits : SFits w64 (to_z w64 last +ℤ pos 1)
@@ -174,7 +174,7 @@ module _ {s : List ℕ} {l : Layout} {at i last : ℕ} {ids old new : List ℕ} 
     pub passing-next : (key id : ℕ) (out : List ℕ)
         → key ≡ at + block.key_at l (block_of l (drop at s)) i → id ≡ nat_abs (to_z w64 (of_z w64 (reckoned last r))) → Kept ids new out
         → ((f : ℕ → List ℕ) → Held ids new f → Held ids out (λ x. turned (found_entry s key) id x (f x)))
-        → Passing s l at (i + 1) (of_z w64 (reckoned last r)) ids old out
+        → Passing s l at (i + 1) (to_z w64 (of_z w64 (reckoned last r))) ids old out
     unfolding record_at
     passing-next key id out k g kept turn = record {
       before = next-before s l at n i last p.before e c h r small q;

@@ -1,11 +1,10 @@
 -- The order of the refusals, and the entries as the bytes of the definition.
 use mathlib.Core.Path.{◌≡◌, refl, sym, ap, ap₂, ◌∙◌}
 use mathlib.Core.List.{List, ◌++◌}
-use Prim.Native.Nat.{ℕ, ◌+◌, ◌*◌, ◌/◌, ◌≤◌, ◌<◌, min}
+use Prim.Native.Nat.{ℕ, ◌*◌, ◌/◌, ◌≤◌, ◌<◌}
 use native.Mathlib.Omega.{arith}
 use lib.ListN.{length, take, drop, length-take, take-append-drop}
 use borrow.Author.Tests.{lt-ltb, le-ltb, ltb-false}
-use Rattle.parts.specs.Part.{part_at, parts_from}
 use Rattle.parts.proofs.Parts.{parts_same, parts-of}
 use Rattle.refusal.specs.Check.{silent, refused}
 use Rattle.refusal.specs.Number.{output_short}

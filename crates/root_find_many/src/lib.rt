@@ -1,3 +1,5 @@
+#![tactic(auto)]
+
 // Many file numbers looked up in a root file at once: one pass over its records, each of which is sought among the ids.
 ghost use Rattle.std.specs.Prelude.{◌≡◌, [], ◌+◌, ◌*◌, ◌<◌, ◌≤◌, length, drop};
 ghost use Rattle.refusal.specs.Check.{silent};

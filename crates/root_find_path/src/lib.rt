@@ -1,3 +1,5 @@
+#![tactic(auto)]
+
 // The lookup of a path in a root file: the first record that has the path's name hash.
 ghost use Rattle.std.specs.Prelude.{◌≡◌, replicate};
 ghost use Rattle.refusal.specs.Check.{silent};
@@ -16,7 +18,7 @@ use root_layout::{Layout, Opened};
 mod records;
 
 // What a lookup answers: the id of the record, and where its content key stands in the file.
-#[derive(Drop)]
+#[derive(Clone, Copy)]
 pub enum Answer {
     Record(u32, usize),
     Absent,
@@ -24,7 +26,7 @@ pub enum Answer {
 }
 
 // The answer of a lookup, and the content key by value; zeros where none is found.
-#[derive(Drop)]
+#[derive(Clone, Copy)]
 pub struct Found {
     pub answer: Answer,
     pub key: [u8; 16],

@@ -1,3 +1,5 @@
+#![tactic(auto)]
+
 // The check of a root file, the name hash of a path and the lookup of the path in the file, one call after the other. That the first
 // record is found is what `look` ensures of their answers, so that it rests on the contracts of the functions themselves.
 ghost use Rattle.std.specs.Prelude.{◌≡◌, ℕ};
@@ -14,7 +16,7 @@ use refusal::Verdict;
 use root_find_path::Found;
 
 // What the three calls answered.
-#[derive(Drop)]
+#[derive(Clone, Copy)]
 pub struct Looked {
     pub checked: Verdict,
     pub hashed: Hashed,

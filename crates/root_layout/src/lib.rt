@@ -1,3 +1,5 @@
+#![tactic(auto)]
+
 // The header of a root file, refusals 42 to 44, and how its blocks are laid out. specs/Header.antt and specs/Layout.antt have the
 // names of the constants as that language writes them.
 ghost use Rattle.std.specs.Prelude.{◌≡◌, ◌≤◌};
@@ -51,7 +53,7 @@ pub const UNKNOWN_SIZE: u8 = 5;
 pub const NO_NAME_HASHES: u64 = 0x1000_0000;
 
 // How the blocks of a root file are laid out. Every value is answered for: the types keep each sum within its range.
-#[derive(Drop)]
+#[derive(Clone, Copy)]
 pub struct Layout {
     // Where the first block stands.
     pub start: u32,
@@ -68,7 +70,7 @@ pub struct Layout {
 }
 
 // What opening a root file answers.
-#[derive(Drop)]
+#[derive(Clone, Copy)]
 pub enum Opened {
     Passed(Layout),
     Refused(Refusal),

@@ -11,9 +11,8 @@ use lib.ListN.{replicate}
 use borrow.Author.Tests.{eqb-true, eq-eqb}
 use Rattle.refusal.proofs.Laws.{passed_is, after-quiet}
 use Rattle.root_block.specs.Block.{counts}
-use Rattle.root.specs.declared.Answer.TheVariants.{Key}
 use Rattle.root.specs.Root.{root_check}
-use Rattle.root.specs.Lookup.{Record, records, First, none, this, first_of, is_id, wanted, lookup_of, key_at, key_or, outcome}
+use Rattle.root.specs.Lookup.{Record, records, First, none, this, first_of, is_id, wanted, lookup_of, key_or, outcome}
 use Rattle.root.proofs.First.{not-wanted, is_wanted}
 use Rattle.root_records.specs.Records.{Decides, NoneWanted, FirstWanted, FindsFirst, Wanted, Calls, FindsNumber}
 
