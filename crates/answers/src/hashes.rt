@@ -5,7 +5,7 @@ ghost use Rattle.crossing.specs.Crossing.{Crosses, verdict_outcome, lent_after};
 ghost use Rattle.answers.specs.Lent.{words_to};
 
 use crossing::refused;
-use md5::Updated;
+use md5_digest::Updated;
 use refusal::Verdict;
 
 // Lays out what taking a part of a message answers, and puts the state after it; a refusal leaves the state.

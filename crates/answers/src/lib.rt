@@ -1,3 +1,5 @@
+#![tactic(auto)]
+
 // What the library's calls answer, laid out for C as a result and eight words.
 pub mod encodings;
 pub mod file_numbers;

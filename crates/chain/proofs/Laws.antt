@@ -1,5 +1,5 @@
 -- Laws of the chain.
-use mathlib.Core.Path.{◌≡◌, refl, sym, ap, ◌∙◌}
+use mathlib.Core.Path.{◌≡◌, refl, ap, ◌∙◌}
 use mathlib.Core.List.{List, [], ◌∷◌}
 use Prim.Native.Nat.{ℕ}
 use native.Mathlib.Omega.{arith}
@@ -10,7 +10,7 @@ use Rattle.refusal.specs.Outcome.{Outcome, answered, after}
 use Rattle.refusal.proofs.Laws.{first-left}
 use Rattle.encoding_header.specs.declared.Kind.TheVariants.{Content}
 use Rattle.encoding_header.specs.Header.{header_of, opening}
-use Rattle.encoding_lookup.specs.Lookup.{lookup_check, length_check, content_lookup, part_after, encoding_keys_of}
+use Rattle.encoding_lookup.specs.Lookup.{lookup_check, length_check, content_lookup, part_after}
 use Rattle.encoding_lookup.proofs.Laws.{run-told}
 use Rattle.chain.specs.Chain.{first_of, encoding_key}
 

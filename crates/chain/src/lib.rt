@@ -1,3 +1,5 @@
+#![tactic(auto)]
+
 // From a file number to its place in an archive: the root file tells its content key, the encoding file the encoding key, and the
 // index size and location.
 ghost use Rattle.std.specs.Prelude.{◌≡◌};
@@ -10,7 +12,7 @@ use parts::part;
 use refusal::Refusal;
 
 // The links of the chain, each with a file of its own.
-#[derive(Drop)]
+#[derive(Clone, Copy)]
 pub enum Link {
     Root,
     Encoding,
@@ -19,7 +21,7 @@ pub enum Link {
 
 // What the chain answers: the entry of the index; or the link that was absent, with the stored keys compared in the index; or the
 // link that refused.
-#[derive(Drop)]
+#[derive(Clone, Copy)]
 pub enum Resolved {
     Found(Entry),
     Absent(Link, u32),

@@ -1,3 +1,5 @@
+#![tactic(auto)]
+
 // The full checks of three files and the chain through them, one call after the other. That the chain agrees with reading each file is
 // what `follow` ensures of their answers, so that it rests on the contracts of the functions themselves.
 ghost use Rattle.std.specs.Prelude.{◌≡◌};
@@ -14,7 +16,7 @@ use index_open::Checked;
 use refusal::Verdict;
 
 // What the three checks and the chain answered.
-#[derive(Drop)]
+#[derive(Clone, Copy)]
 pub struct Followed {
     pub root: Verdict,
     pub encoding: Verdict,

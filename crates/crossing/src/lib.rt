@@ -1,3 +1,5 @@
+#![tactic(auto)]
+
 // How answers cross to C, as a result and eight words, and how small numbers come from there.
 ghost use Rattle.std.specs.Prelude.{◌≡◌, min};
 ghost use Rattle.refusal.specs.Check.{check_of};

@@ -9,7 +9,7 @@ use Rattle.refusal.specs.Number.{hash_limit}
 use Rattle.refusal.specs.Outcome.{Outcome, answered}
 use Rattle.refusal.specs.Output.{filled}
 use Rattle.refusal.proofs.Laws.{after-said, after-quiet}
-use Rattle.md5.specs.declared.Md5.{Md5}
+use Rattle.md5_digest.specs.declared.Md5.{Md5}
 use Rattle.key_text.specs.Text.{text_check, text_bytes, carried}
 use Rattle.key_text.proofs.Laws.{carried-key}
 use Rattle.index_layout.specs.Layout.{footer_size, index_length_of, layout_of}

@@ -1,8 +1,8 @@
 -- The MD5 state as C holds it, as four words, 64 pending bytes and the count: rule S4.
 use Rattle.std.specs.Prelude.{cond, List, ℕ, ◌+◌, length, get_or}
 use Rattle.md5_block.specs.declared.Words.{Words}
-use Rattle.md5.specs.declared.Md5.{Md5}
-use Rattle.md5.specs.Message.{is_too_long, absorbed}
+use Rattle.md5_digest.specs.declared.Md5.{Md5}
+use Rattle.md5_digest.specs.Message.{is_too_long, absorbed}
 use Rattle.answers.specs.Lent.{words_to}
 
 abbrev pub words_from : List ℕ → Words

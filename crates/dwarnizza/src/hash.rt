@@ -1,15 +1,15 @@
 // MD5.
 ghost use Rattle.std.specs.Prelude.{◌≡◌, cond, [], ◌+◌, length, replicate};
 ghost use Rattle.refusal.specs.Outcome.{answered};
-ghost use Rattle.md5.specs.Message as md5;
+ghost use Rattle.md5_digest.specs.Message as md5;
 ghost use Rattle.crossing.specs.Crossing.{Crosses, verdict_outcome};
 ghost use Rattle.answers.specs.Lent.{words_to};
 ghost use Rattle.dwarnizza.specs.Md5State.{state_of, words_after};
 
 use answers::hashes::tell_state;
 use crossing::tell_sixteen;
-use md5::Md5;
 use md5_block::Words;
+use md5_digest::Md5;
 
 fn state(words: &[u32; 4], pending: &[u8; 64], count: u64) -> Md5
     ensures { result ≡ state_of words.now pending.now count }
@@ -33,7 +33,7 @@ pub extern "C" fn dwarnizza_md5(message: &[u8], digest: &mut [u8; 16], answer: &
     ensures crosses { Crosses (verdict_outcome (md5.limited (length message.now))) result answer.new }
     ensures digest_after { digest.new ≡ cond (md5.is_too_long (length message.now)) digest.old (md5.md5 message.now) }
 {
-    let hashed = md5::digest(message);
+    let hashed = md5_digest::digest(message);
     let verdict = hashed.verdict;
     let bytes = hashed.bytes;
     tell_sixteen(verdict, bytes, digest, answer)

@@ -4,7 +4,7 @@ use mathlib.Core.List.{◌++◌}
 use Prim.{tt}
 use Rattle.parts.specs.Part.{same_bytes, parts_from}
 use Rattle.numbers.specs.Number.{little_at, within}
-use Rattle.md5.specs.Message.{little_bytes}
+use Rattle.md5_digest.specs.Message.{little_bytes}
 use Rattle.refusal.specs.Check.{refused_if, first}
 use Rattle.refusal.specs.Outcome.{after}
 use Rattle.text.specs.Text.{ascii}

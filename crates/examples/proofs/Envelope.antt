@@ -4,7 +4,7 @@ use Prim.{tt}
 use Rattle.parts.specs.Part.{same_bytes, parts_from}
 use Rattle.numbers.specs.Number.{big_at}
 use Rattle.md5_block.specs.Block.{addends, shifts, mixed, word_number, turned, step, steps, word, words_of, sum, block, blocks}
-use Rattle.md5.specs.Message.{little_bytes, padding, initial, digest_of, md5}
+use Rattle.md5_digest.specs.Message.{little_bytes, padding, initial, digest_of, md5}
 use Rattle.refusal.specs.Check.{refused_if, first, first_from}
 use Rattle.refusal.specs.Outcome.{after}
 use Rattle.refusal.specs.Output.{filled}

@@ -5,7 +5,7 @@ use Rattle.parts.specs.Part.{same_bytes, parts_from}
 use Rattle.numbers.specs.Number.{big_at, little_at, within}
 use Rattle.key.specs.Order.{compared, decided}
 use Rattle.md5_block.specs.Block.{addends, shifts, mixed, word_number, turned, step, steps, word, words_of, sum, block, blocks}
-use Rattle.md5.specs.Message.{little_bytes, padding, initial, digest_of, md5}
+use Rattle.md5_digest.specs.Message.{little_bytes, padding, initial, digest_of, md5}
 use Rattle.refusal.specs.Check.{refused_if, first, first_from}
 use Rattle.refusal.specs.Outcome.{after}
 use Rattle.halving.specs.Halving.{halve, halving, halved_once}

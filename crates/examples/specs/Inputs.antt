@@ -1,7 +1,7 @@
 -- The inputs of the examples.
 use Rattle.std.specs.Prelude.{Bool, cond, List, [], ◌∷◌, ◌++◌, ℕ, ◌+◌, ◌-◌, ◌*◌, eqb, ℤ, pos, negsuc, length, replicate}
 use Rattle.parts.specs.Part.{parts_from}
-use Rattle.md5.specs.Message.{little_bytes}
+use Rattle.md5_digest.specs.Message.{little_bytes}
 use Rattle.text.specs.Text.{ascii}
 use Rattle.index_writer.specs.declared.Settings.{Settings}
 use Rattle.spec_table.specs.Specs.{run_of}

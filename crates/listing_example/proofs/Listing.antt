@@ -2,9 +2,9 @@
 use mathlib.Core.Path.{◌≡◌, refl, ap, ◌∙◌}
 use Rattle.numbers.specs.Number.{big_at, little_at, within}
 use Rattle.parts.specs.Part.{same_bytes, all_zero, parts_from}
-use Rattle.refusal.specs.Check.{silent, refused, refused_if, first, first_from}
+use Rattle.refusal.specs.Check.{silent, refused_if, first, first_from}
 use Rattle.md5_block.specs.Block.{addends, shifts, mixed, word_number, turned, step, steps, word, words_of, sum, block, blocks}
-use Rattle.md5.specs.Message.{little_bytes, padding, initial, digest_of, md5}
+use Rattle.md5_digest.specs.Message.{little_bytes, padding, initial, digest_of, md5}
 use Rattle.key.specs.Order.{compared, decided}
 use Rattle.index_layout.specs.Layout.{layout_from, pages_for, entry_size, full, placed_on, on_page, entry_at, last_key_offset, page_hash_at, index_length_of}
 use Rattle.index_open.specs.Open.{field_check, fields_check_with, footer_hash_check, footer_check, opening}

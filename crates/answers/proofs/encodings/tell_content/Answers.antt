@@ -1,0 +1,21 @@
+-- `answers::encodings::tell_content`: each case, laid out.
+use mathlib.Core.Path.{refl, sym, ap}
+use Rattle.crossing.proofs.Laws.{crosses-as}
+use Rattle.encoding_lookup.specs.Lookup.{content_outcome}
+use Rattle.crossing.specs.Crossing.{result, answer_words}
+use Rattle.answers.proofs.encodings.tell_content.Goals as goal
+
+pub returns-in-Refused : goal.returns-in-Refused
+unfolding content_outcome
+returns-in-Refused c = let e = sym (ap content_outcome c.in-Refused.is) in
+    crosses-as e c.refused.ensures
+
+pub returns-in-Absent : goal.returns-in-Absent
+unfolding content_outcome result answer_words
+returns-in-Absent c = let e = sym (ap content_outcome c.in-Absent.is) in
+    crosses-as e (record { result_is = refl; words_are = refl })
+
+pub returns-in-Found : goal.returns-in-Found
+unfolding content_outcome result answer_words
+returns-in-Found c = let e = sym (ap content_outcome c.in-Found.is) in
+    crosses-as e (record { result_is = refl; words_are = refl })
