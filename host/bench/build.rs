@@ -34,7 +34,7 @@ fn link(name: &str) {
         println!("cargo::rustc-link-lib=static={name}");
     } else {
         println!(
-            "cargo::error=there is no {}: run `rt staticlib {name}` in the repository's root; \
+            "cargo::error=there is no {}: run `tools/archives {name}` in the repository's root; \
              it belongs beside libdwarnizza.a",
             archive.display()
         );

@@ -4,7 +4,7 @@
     host/python/build.py [FOLDER]
 
 It needs a C compiler (`cc`, or what CC names) on x86-64 Linux, and the static library
-target/staticlib/libdwarnizza.a, which `rt staticlib dwarnizza` makes. The package is a folder with
+target/staticlib/libdwarnizza.a, which `tools/archives dwarnizza` makes. The package is a folder with
 the modules of host/python/dwarnizza, the shared library dwarnizza.so, and what the modules know of
 include/dwarnizza.h. It may be copied to any place where Python looks for packages.
 """
@@ -101,7 +101,7 @@ def main(arguments: List[str]) -> int:
         print(__doc__, end="", file=sys.stderr)
         return 64
     if not LIBRARY.is_file():
-        print(f"build.py: there is no {LIBRARY}: run `rt staticlib dwarnizza`", file=sys.stderr)
+        print(f"build.py: there is no {LIBRARY}: run `tools/archives dwarnizza`", file=sys.stderr)
         return 69
     try:
         build(Path(arguments[0]) if arguments else REPOSITORY / "target/python")

@@ -22,7 +22,7 @@ fn main() {
         println!("cargo::rustc-link-lib=static=dwarnizza");
     } else {
         println!(
-            "cargo::error=there is no {}: run `rt staticlib dwarnizza` in the repository's root, \
+            "cargo::error=there is no {}: run `tools/archives dwarnizza` in the repository's root, \
              or set {LIB_DIR} to the folder of libdwarnizza.a",
             archive.display()
         );

@@ -12,17 +12,18 @@ use std::time::{Duration, SystemTime};
 use run::{folder, output};
 
 /// The programs that the script calls, but for `rt` and `cargo`.
-const PROGRAMS: [&str; 14] = [
-    "awk", "bash", "cat", "chmod", "dirname", "env", "find", "mkdir", "mv", "readlink", "rm",
-    "tail", "tee", "touch",
+const PROGRAMS: [&str; 16] = [
+    "awk", "basename", "bash", "cat", "chmod", "cp", "dirname", "env", "find", "mkdir", "mv",
+    "readlink", "rm", "tail", "tee", "touch",
 ];
 
-/// Proves what it is told, and says so between other lines.
+/// Proves the crate in whose folder it is called, and says so between other lines.
 const RT: &str = r#"#!/usr/bin/env bash
-echo "rt $*" >>"$CALLS"
+name=$(basename "$PWD")
+echo "rt $* $name" >>"$CALLS"
 case $1 in
-check) shift; for name; do echo "fn $name::one: proved"; echo "rt: $name proved (1 s)"; done ;;
-staticlib) echo "rt: one proved (unchanged since it was last proved)"; mkdir -p target/staticlib; echo new >target/staticlib/libdwarnizza.a; [ ! -e fails ] ;;
+check) echo "fn $name::one: proved"; echo "logic=proved functions=1" ;;
+lib) echo "rt: one proved (unchanged since it was last proved)"; mkdir -p out; echo new >out/libdwarnizza.a; [ ! -e ../../fails ] ;;
 esac
 "#;
 
@@ -47,6 +48,8 @@ impl Repository {
         fs::copy(script, top.join("dwarnizza")).expect("the script is there");
         for folder in [
             "crates/one",
+            "crates/two",
+            "crates/dwarnizza",
             "host/cli",
             "host/dwarnizza",
             "host/sys",
@@ -62,7 +65,7 @@ impl Repository {
         ] {
             fs::write(top.join(file), "").expect("a file can be written");
         }
-        let crates = "# NAME: DEP\none:\ntwo: one io\nother: one\ndwarnizza: two\n";
+        let crates = "# NAME: DEP\none:\ntwo: one io\nother: one\ndwarnizza staticlib: two\n";
         fs::write(top.join("crates.txt"), crates).expect("a file can be written");
         for program in PROGRAMS {
             let found = ["/usr/bin", "/bin"].map(|folder| Path::new(folder).join(program));
@@ -118,7 +121,7 @@ fn text(bytes: &[u8]) -> String {
     String::from_utf8_lossy(bytes).into_owned()
 }
 
-const ALL: &str = "rt check one two\nrt staticlib dwarnizza\ncargo\n";
+const ALL: &str = "rt check one\nrt check two\nrt lib dwarnizza\ncargo\n";
 
 #[test]
 fn what_is_missing_is_built_once_with_short_words() {
@@ -128,7 +131,7 @@ fn what_is_missing_is_built_once_with_short_words() {
     assert_eq!(repository.calls(), ALL);
     let said = text(&first.stderr);
     assert!(
-        said.contains("3 crates, which may take five minutes"),
+        said.contains("3 crates, which may take half an hour"),
         "{said}"
     );
     assert!(said.contains("crate 1 of 3: one\n"), "{said}");
