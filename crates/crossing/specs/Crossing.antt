@@ -1,5 +1,7 @@
--- How an answer crosses to C, as a result and eight words: rules S1 to S3 and S5.
-use Rattle.std.specs.Prelude.{◌≡◌, Bool, cond, List, [], ◌∷◌, ◌++◌, ℕ, take, replicate}
+-- How an answer crosses to C, as a result and eight words: rules S1 to S5, R16 and R23.
+use Rattle.std.specs.Prelude.{◌≡◌, Bool, cond, List, [], ◌∷◌, ◌++◌, ℕ, take, replicate, Result, Ok, Err, Option, Some, None}
+use Rattle.refusal.specs.declared.Refusal.{Refusal}
+use Rattle.refusal.specs.Number.{number_of}
 use Rattle.refusal.specs.Check.{Check, silent, refused}
 use Rattle.refusal.specs.Outcome.{Outcome, answered, absent, refusal, after}
 
@@ -36,3 +38,20 @@ test_outcome test = cond test (answered []) (absent [])
 unfoldable pub lent_after : {A : Type 0} → Check → (new lent : A) → A
 lent_after silent new lent = new
 lent_after (refused number place) new lent = lent
+
+-- What is lent after an answer that replaces it; a refusal leaves it (rule S4).
+abbrev pub told_or : {A : Type 0} → Result A Refusal → (lent : A) → A
+told_or (Ok new) lent = new
+told_or (Err r) lent = lent
+
+-- An answer that may be absent, with no values then.
+abbrev pub found_outcome : {A : Type 0} → (A → List ℕ) → Result (Option A) Refusal → Outcome
+found_outcome values (Ok (Some found)) = answered (values found)
+found_outcome values (Ok None) = absent []
+found_outcome values (Err r) = refusal (number_of r.reason) r.place
+
+-- A lent content key after a lookup: the one found; it stays where none is (rules R16, R23).
+abbrev pub key_found : {A : Type 0} → (A → List ℕ) → Result (Option A) Refusal → (lent : List ℕ) → List ℕ
+key_found key (Ok (Some found)) lent = key found
+key_found key (Ok None) lent = lent
+key_found key (Err r) lent = lent

@@ -2,14 +2,12 @@
 use mathlib.Core.Path.{◌≡◌, refl, sym, ◌∙◌}
 use mathlib.Core.Bool.{Bool, true, false}
 use Prim.Native.Nat.{ℕ, zero, suc, ◌+◌, ◌-◌, ◌*◌, ◌/◌, ◌^◌, ◌≤◌, ◌<◌}
-use native.Mathlib.Nat.{add-zero, zero-add, mul-le-mul, pow-suc}
+use native.Mathlib.Nat.{add-zero, zero-add, pow-suc}
 use native.Mathlib.Decide.{dec_lt}
 use native.Mathlib.Omega.{arith}
 use lib.Count.{count_leading_zeros, leading_unique}
 use lib.Dec.{ltb}
 use lib.Pow.{pow_mono}
-use mir.Syntax.{w64}
-use mir.Val.{Fits}
 use borrow.Author.Tests.{ne_eqb, ltb-true, ltb-false}
 use Rattle.parts.proofs.Laws.{by-test}
 use Rattle.halving.specs.declared.Halved.{Halved}
@@ -51,11 +49,6 @@ digits-least n = from-least n n 0 (rw zero-add (below_power n)) (λ e m. omega a
 pub digits-none : binary_digits 0 ≡ 0
 unfolding binary_digits digits_from
 digits-none = refl
-
--- at the most entries that an index has
-pub digits-limit : binary_digits 8388608 ≡ 24
-unfolding binary_digits digits_from least_or
-digits-limit = refl
 
 pub digits-mono : {m n : ℕ} → m ≤ n → binary_digits m ≤ binary_digits n
 digits-mono {m} {n} h = (digits-least m).least (binary_digits n) (omega (arith, (digits-least n).below))
@@ -129,16 +122,6 @@ module _ (below : ℕ → Bool) where
       ])
       turns start w count h w (omega arith)
 
-  -- The place lies in the range, or just after it.
-  pub halve-place : (w : ℕ) → (halve below w).place ≤ w
-  unfolding halve
-  halve-place w =
-      by-halving (λ start v count r. start + v ≤ w → r.place ≤ w)
-      (λ start count h. omega arith)
-      (λ start v count r some t p h. p (omega arith))
-      (λ start v count r some t p h. p (omega arith))
-      w 0 w 0 (omega arith) (omega arith)
-
   -- At most as many keys are compared as the range has binary digits.
   pub halve-count : (w : ℕ) → (halve below w).count ≤ binary_digits w
   unfolding halve
@@ -170,11 +153,6 @@ halve-first below w rising =
     (λ start v count r some t p h before stops. p (omega arith) before (λ l. t))
     w 0 w 0 (omega arith) (omega arith) (λ i h. absurd (omega arith)) (λ h. absurd (omega arith))
 
-pub first-unique : {below : ℕ → Bool} {w p q : ℕ} → First below w p → First below w q → p ≡ q
-first-unique {below} {w} {p} {q} f g =
-    by_order p q (λ l. absurd (true-or-false (g.before p l) (f.stops (omega (arith, g.inside)))))
-    (λ m. by_order q p (λ l. absurd (true-or-false (f.before q l) (g.stops (omega (arith, f.inside))))) (λ l. omega arith))
-
 -- The halving asks of no key outside the range.
 pub halve-agree : (p q : ℕ → Bool) (w : ℕ) → ((i : ℕ) → i < w → p i ≡ q i) → halve p w ≡ halve q w
 unfolding halve
@@ -190,13 +168,3 @@ halve-agree p q w same =
       | suc turns ↦ λ l. ih (omega arith) turns (omega arith) ∙ sym (go-before q turns start v count some (sym (same _ (omega arith)) ∙ t))
     ])
     w 0 w 0 (omega arith) (omega arith) w (omega arith)
-
--- ---- turn by turn
-
--- Where a key stands.
-pub offset-fits : {i stride : ℕ} → i < 2 ^ 32 → stride < 2 ^ 16 → Fits w64 (i * stride)
-offset-fits {i} {stride} h k =
-    let a : i ≤ 4294967295 = omega arith in
-    let b : stride ≤ 65535 = omega arith in
-    let most = mul-le-mul a b in
-    record { fits = omega arith }

@@ -2,7 +2,7 @@
 use mathlib.Core.Path.{◌≡◌, refl, sym, ap, ◌∙◌}
 use mathlib.Core.Bool.{Bool, true, false, cond}
 use mathlib.Core.List.{List}
-use Prim.Native.Nat.{ℕ, suc, ◌+◌, ◌*◌, ◌≤◌, ◌<◌}
+use Prim.Native.Nat.{ℕ, ◌+◌, ◌*◌, ◌≤◌, ◌<◌}
 use native.Mathlib.Nat.{suc-mul, mul-le-mul_right}
 use native.Mathlib.Omega.{arith}
 use lib.Dec.{ltb}
@@ -24,7 +24,6 @@ use Rattle.halving.proofs.Rule.{halving-rule}
 
 -- A step leaves half of the other keys.
 pub next-holds : (n : ℕ) (r : Range) (b : Bool) → Holds (2 * n + 1) r → Holds n (next_of r b)
-unfolding next_of
 next-holds n r true h = record {
   keys = omega (arith, h.keys);
   places = omega (arith, h.keys, h.places);
@@ -38,22 +37,14 @@ next-holds n r false h = record {
 
 -- A step leaves fewer keys.
 pub next-less : (r : Range) (b : Bool) → 0 < r.left → (next_of r b).left < r.left
-unfolding next_of
 next-less r true some = omega arith
 next-less r false some = omega arith
 
-pub holds-fewer : {n : ℕ} {r : Range} → Holds (suc n) r → Holds 1 r
-holds-fewer h = record { keys = omega (arith, h.keys); places = h.places; counts = h.counts }
-
 pub next-left : (r : Range) (b : Bool) → (next_of r b).left ≤ r.left
-unfolding next_of
 next-left r true = omega arith
 next-left r false = omega arith
 
 module _ {below : ℕ → Bool} where
-  pub leads-none : (r : Range) → Leads below r r
-  leads-none r = record { places = omega arith; counts = omega arith; same = refl }
-
   pub leads-on : {q r s : Range} → Leads below q r → Leads below r s → Leads below q s
   leads-on a b = record {
     places = omega (arith, a.places, b.places);
@@ -62,7 +53,6 @@ module _ {below : ℕ → Bool} where
   }
 
   pub leads-next : (r : Range) (b : Bool) → 0 < r.left → below (middle_of r) ≡ b → Leads below r (next_of r b)
-  unfolding next_of
   leads-next r true some e = record {
     places = omega arith;
     counts = omega arith;
@@ -74,10 +64,6 @@ module _ {below : ℕ → Bool} where
     same = (halving-rule below).not_below r.start r.left r.count some e;
   }
 
-  -- What the rule comes to fits as what it came from.
-  pub leads-holds : (n : ℕ) {from to : Range} → Holds 0 from → Leads below from to → n ≤ to.left → Holds n to
-  leads-holds n h a k = record { keys = k; places = omega (arith, h.places, a.places); counts = omega (arith, h.counts, a.counts) }
-
   -- Where no key is left, the rule stops.
   pub leads-end : {from to : Range} → Leads below from to → to.left ≤ 0
       → halved_from below from.start from.left from.count ≡ record { place = to.start; count = to.count }
@@ -87,18 +73,13 @@ module _ {below : ℕ → Bool} where
 
 -- ---- what is read beforehand
 
-pub picked : (b : Bool) (x y : Fronts) {m p q : ℕ} → m ≡ cond b x.middle y.middle → p ≡ cond b x.before y.before
-    → q ≡ cond b x.after y.after → record { middle = m; before = p; after = q } ≡ cond b x y
-picked true x y e f g = rw (e, f, g)
-picked false x y e f g = rw (e, f, g)
-
 module _ (keys : List ℕ) (stride : ℕ) (r : Range) where
-  pub picked-fronts : (b : Bool) → cond b (fronts_of keys stride (next_of r true)) (fronts_of keys stride (next_of r false)) ≡ fronts_of keys stride (next_of r b)
+  pub picked-fronts : (b : Bool)
+      → cond b (fronts_of keys stride (next_of r true)) (fronts_of keys stride (next_of r false)) ≡ fronts_of keys stride (next_of r b)
   picked-fronts true = refl
   picked-fronts false = refl
 
   pub picked-front : (b : Bool) → cond b (fronts_of keys stride r).after (fronts_of keys stride r).before ≡ front_of keys stride (next_of r b)
-  unfolding fronts_of
   picked-front true = refl
   picked-front false = refl
 
@@ -110,12 +91,12 @@ module _ {keys : List ℕ} {stride sought : ℕ} {below : ℕ → Bool} where
 
   pub leads-told : (r : Range) → 0 < r.left → Told keys stride sought (r.start + r.left) below → (front_of keys stride r ≡ sought → ⊥)
       → Leads below r (next_of r (ltb (front_of keys stride r) sought))
-  unfolding front_of
   leads-told r some told other = leads-next r _ some (told.tells (middle_of r) (omega arith) other)
 
 -- Three steps by what was read of seven keys.
 module _ (keys : List ℕ) (stride sought : ℕ) (r one two to : Range) (before after then : Fronts) (x z : ℕ) (h : Holds 7 r)
-    (x-is : x ≡ front_of keys stride r) (before-is : before ≡ fronts_of keys stride (next_of r false)) (after_is : after ≡ fronts_of keys stride (next_of r true))
+    (x-is : x ≡ front_of keys stride r) (before-is : before ≡ fronts_of keys stride (next_of r false))
+    (after_is : after ≡ fronts_of keys stride (next_of r true))
     (one-is : one ≡ next_of r (ltb x sought)) (then_is : then ≡ cond (ltb x sought) after before)
     (z-is : z ≡ cond (ltb then.middle sought) then.after then.before)
     (two_is : two ≡ next_of one (ltb then.middle sought)) (to_is : to ≡ next_of two (ltb z sought)) where
@@ -123,7 +104,6 @@ module _ (keys : List ℕ) (stride sought : ℕ) (r one two to : Range) (before 
   then-fronts = then_is ∙ rw (before-is, after_is) (picked-fronts keys stride r _) ∙ ap (fronts_of keys stride) (sym one-is)
 
   y-front : then.middle ≡ front_of keys stride one
-  unfolding fronts_of
   y-front = ap (λ f. f.middle) then-fronts
 
   z-front : z ≡ front_of keys stride two

@@ -19,15 +19,15 @@ whole w = record { start = 0; left = w; count = 0 }
 abbrev pub middle_of : Range → ℕ
 middle_of r = r.start + r.left / 2
 
-unfoldable pub next_of : Range → (below : Bool) → Range
+abbrev pub next_of : Range → (below : Bool) → Range
 next_of r true = record { start = middle_of r + 1; left = r.left - r.left / 2 - 1; count = r.count + 1 }
 next_of r false = record { start = r.start; left = r.left / 2; count = r.count + 1 }
 
 -- The first eight bytes of a range's middle key; and of the middle keys of the two ranges that may come next.
-unfoldable pub front_of : List ℕ → (stride : ℕ) → Range → ℕ
+abbrev pub front_of : List ℕ → (stride : ℕ) → Range → ℕ
 front_of keys stride r = eight_at keys (middle_of r * stride)
 
-unfoldable pub fronts_of : List ℕ → (stride : ℕ) → Range → Fronts
+abbrev pub fronts_of : List ℕ → (stride : ℕ) → Range → Fronts
 fronts_of keys stride r = record {
   middle = front_of keys stride r;
   before = front_of keys stride (next_of r false);

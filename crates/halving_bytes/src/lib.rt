@@ -42,13 +42,14 @@ fn halve(keys: &[u8], stride: u32, count: u32, key: &[u8]) -> Halved
     }
 }
 
-// Where a halving ends and its count, for C.
-fn tell_place(halved: Halved) -> Place
-    ensures { result ≡ place_of halved }
-{
-    Place {
-        place: halved.place,
-        count: halved.count,
+impl From<Halved> for Place {
+    ghost from_gives = { λ halved place. place ≡ place_of halved };
+
+    fn from(halved: Halved) -> Place {
+        Place {
+            place: halved.place,
+            count: halved.count,
+        }
     }
 }
 
@@ -57,7 +58,7 @@ fn tell_place(halved: Halved) -> Place
 pub extern "C" fn key_bytes_halve(keys: &[u8], stride: u32, count: u32, key: &[u8]) -> Place
     ensures { result ≡ place_of (spec.halve (spec.is_key_below keys.now stride key.now) count) }
 {
-    tell_place(halve(keys, stride, count, key))
+    Place::from(halve(keys, stride, count, key))
 }
 
 // The same by the halving of the library. That takes a stride of 16 bits, and no index has a greater one.
@@ -66,7 +67,7 @@ pub extern "C" fn key_eights_halve(keys: &[u8], stride: u32, count: u32, key: &[
     ensures { result ≡ place_of (spec.halve (spec.is_key_below keys.now stride key.now) count) }
 {
     if 65535 < stride {
-        return tell_place(halve(keys, stride, count, key));
+        return Place::from(halve(keys, stride, count, key));
     }
-    tell_place(halving::halve(keys, stride as u16, count, key))
+    Place::from(halving::halve(keys, stride as u16, count, key))
 }

@@ -16,32 +16,40 @@ use Rattle.parts.specs.Part.{byte_at, part_at, same_bytes}
 use Rattle.parts.proofs.Laws.{part_at-byte, same_bytes-of-eq, same_bytes-eq}
 use Rattle.numbers.specs.Number.{big_at}
 use Rattle.numbers.proofs.Laws.{big_at-agree, big_at-below}
-use Rattle.key.specs.declared.Order.{Order}
-use Rattle.key.specs.declared.Order.TheVariants.{Below, Equal, Above}
+use Rattle.std.specs.declared.cmp.Ordering.{Ordering}
+use Rattle.std.specs.declared.cmp.Ordering.TheVariants.{Less, Equal, Greater}
+use Rattle.std.specs.Int.{w64, from_be_bytes}
+use Rattle.std.specs.Ordering.{nat_cmp, is_eq}
+use Rattle.std.specs.Cmp.{nat_cmp_is}
 use Rattle.key.specs.Order.{decided, compared, is_below, is_equal, is_above}
 use Rattle.key.specs.Eight.{eight_at}
 
 -- ---- the three outcomes
 
-module _ {o : Order} where
-  pub below-not-equal : o ≡ Below → o ≡ Equal → ⊥
+module _ {o : Ordering} where
+  pub below-not-equal : o ≡ Less → o ≡ Equal → ⊥
   below-not-equal p q = let z : ◌≡◌ {A = ℕ} 0 1 = cc in omega arith
 
-  pub below-not-above : o ≡ Below → o ≡ Above → ⊥
+  pub below-not-above : o ≡ Less → o ≡ Greater → ⊥
   below-not-above p q = let z : ◌≡◌ {A = ℕ} 0 1 = cc in omega arith
 
-  pub equal-not-above : o ≡ Equal → o ≡ Above → ⊥
+  pub equal-not-above : o ≡ Equal → o ≡ Greater → ⊥
   equal-not-above p q = let z : ◌≡◌ {A = ℕ} 0 1 = cc in omega arith
 
-pub is_below-true : (o : Order) → is_below o ≡ true → o ≡ Below
-is_below-true Below e = refl
+pub is_below-true : (o : Ordering) → is_below o ≡ true → o ≡ Less
+is_below-true Less e = refl
 is_below-true Equal e = cc
-is_below-true Above e = cc
+is_below-true Greater e = cc
 
-pub is_equal-true : (o : Order) → is_equal o ≡ true → o ≡ Equal
-is_equal-true Below e = cc
+pub is_equal-true : (o : Ordering) → is_equal o ≡ true → o ≡ Equal
+is_equal-true Less e = cc
 is_equal-true Equal e = refl
-is_equal-true Above e = cc
+is_equal-true Greater e = cc
+
+pub is_eq-is : (o : Ordering) → is_eq o ≡ is_equal o
+is_eq-is Less = refl
+is_eq-is Equal = refl
+is_eq-is Greater = refl
 
 -- ---- the first bytes
 
@@ -54,11 +62,11 @@ by_order {P} x y less same greater = go (dec_lt x y) (dec_lt y x)
     go (no l) (no m) = same (omega arith)
 
 module _ (a b : List ℕ) where
-  pub first_below : {x y : ℕ} → x < y → compared (x ∷ a) (y ∷ b) ≡ Below
+  pub first_below : {x y : ℕ} → x < y → compared (x ∷ a) (y ∷ b) ≡ Less
   unfolding compared decided
   first_below {x} {y} l = rw (lt-ltb x y l)
 
-  pub first_above : {x y : ℕ} → y < x → compared (x ∷ a) (y ∷ b) ≡ Above
+  pub first_above : {x y : ℕ} → y < x → compared (x ∷ a) (y ∷ b) ≡ Greater
   unfolding compared decided
   first_above {x} {y} l = rw (le-ltb x y (omega arith), lt-ltb y x l)
 
@@ -68,11 +76,11 @@ module _ (a b : List ℕ) where
 
 -- A list is below another where its first byte is not above and, if the first bytes are the same, the rest is below.
 module _ (x y : ℕ) (a b : List ℕ) where
-  pub below-of-first : x ≤ y → (x ≡ y → compared a b ≡ Below) → compared (x ∷ a) (y ∷ b) ≡ Below
+  pub below-of-first : x ≤ y → (x ≡ y → compared a b ≡ Less) → compared (x ∷ a) (y ∷ b) ≡ Less
   below-of-first l rest =
       by_order x y (first_below a b) (λ e. cc (first-same a b x, rest e)) (λ m. absurd (omega arith))
 
-  pub first-of-below : compared (x ∷ a) (y ∷ b) ≡ Below → (x ≤ y) × (x ≡ y → compared a b ≡ Below)
+  pub first-of-below : compared (x ∷ a) (y ∷ b) ≡ Less → (x ≤ y) × (x ≡ y → compared a b ≡ Less)
   first-of-below h = (
     by_order x y (λ l. omega arith) (λ e. omega arith) (λ l. absurd (below-not-above h (first_above a b l))),
     λ e. cc (first-same a b x),
@@ -110,10 +118,10 @@ equal-is-same a b = by (same_bytes a b) refl (is_equal (compared a b)) refl
 
 -- ---- exchanged
 
-abbrev exchanged : Order → Order
-exchanged Below = Above
+abbrev exchanged : Ordering → Ordering
+exchanged Less = Greater
 exchanged Equal = Equal
-exchanged Above = Below
+exchanged Greater = Less
 
 compared-exchanged : (a b : List ℕ) → compared b a ≡ exchanged (compared a b)
 unfolding compared
@@ -128,28 +136,28 @@ compared-exchanged (x ∷ a) (y ∷ b) =
 pub above-is-below : (a b : List ℕ) → is_above (compared a b) ≡ is_below (compared b a)
 above-is-below a b = go (compared a b) ∙ ap is_below (sym (compared-exchanged a b))
   where
-    go : (o : Order) → is_above o ≡ is_below (exchanged o)
-    go Below = refl
+    go : (o : Ordering) → is_above o ≡ is_below (exchanged o)
+    go Less = refl
     go Equal = refl
-    go Above = refl
+    go Greater = refl
 
-pub above-of-below : (a b : List ℕ) → compared a b ≡ Below → compared b a ≡ Above
+pub above-of-below : (a b : List ℕ) → compared a b ≡ Less → compared b a ≡ Greater
 above-of-below a b h = cc (compared-exchanged a b)
 
-pub below-of-above : (a b : List ℕ) → compared a b ≡ Above → compared b a ≡ Below
+pub below-of-above : (a b : List ℕ) → compared a b ≡ Greater → compared b a ≡ Less
 below-of-above a b h = cc (compared-exchanged a b)
 
 -- ---- below
 
-pub never-below-itself : (a : List ℕ) → compared a a ≡ Below → ⊥
+pub never-below-itself : (a : List ℕ) → compared a a ≡ Less → ⊥
 never-below-itself a h = below-not-equal h (compared-refl a)
 
-never-below-none : (a : List ℕ) → compared a [] ≡ Below → ⊥
+never-below-none : (a : List ℕ) → compared a [] ≡ Less → ⊥
 unfolding compared
 never-below-none [] h = below-not-equal h refl
 never-below-none (x ∷ a) h = below-not-above h refl
 
-pub below-trans : (a b c : List ℕ) → compared a b ≡ Below → compared b c ≡ Below → compared a c ≡ Below
+pub below-trans : (a b c : List ℕ) → compared a b ≡ Less → compared b c ≡ Less → compared a c ≡ Less
 unfolding compared
 below-trans [] b [] h k = absurd (never-below-none b k)
 below-trans [] b (z ∷ c) h k = refl
@@ -160,19 +168,19 @@ below-trans (x ∷ a) (y ∷ b) (z ∷ c) h k =
     let q = first-of-below y z b c k in
     below-of-first x z a c (omega arith) (λ e. below-trans a b c (p.1 (omega arith)) (q.1 (omega arith)))
 
-pub below-then-equal : (a b c : List ℕ) → compared a b ≡ Below → compared b c ≡ Equal → compared a c ≡ Below
+pub below-then-equal : (a b c : List ℕ) → compared a b ≡ Less → compared b c ≡ Equal → compared a c ≡ Less
 below-then-equal a b c h k = cc (eq-of-equal b c k)
 
-pub equal-then-below : (a b c : List ℕ) → compared a b ≡ Equal → compared b c ≡ Below → compared a c ≡ Below
+pub equal-then-below : (a b c : List ℕ) → compared a b ≡ Equal → compared b c ≡ Less → compared a c ≡ Less
 equal-then-below a b c h k = cc (eq-of-equal a b h)
 
-pub below-then-not-above : (a b c : List ℕ) → compared a b ≡ Below → (compared b c ≡ Above → ⊥) → compared a c ≡ Below
+pub below-then-not-above : (a b c : List ℕ) → compared a b ≡ Less → (compared b c ≡ Greater → ⊥) → compared a c ≡ Less
 below-then-not-above a b c below h = go (compared b c) refl
   where
-    go : (o : Order) → compared b c ≡ o → compared a c ≡ Below
-    go Below e = below-trans a b c below e
+    go : (o : Ordering) → compared b c ≡ o → compared a c ≡ Less
+    go Less e = below-trans a b c below e
     go Equal e = below-then-equal a b c below e
-    go Above e = absurd (h e)
+    go Greater e = absurd (h e)
 
 -- ---- a common beginning
 
@@ -198,11 +206,16 @@ module _ {a b : List ℕ} {from at : ℕ} (p : Passed a b from at) where
     opened : compared (drop from a) (drop from b) ≡ compared (byte_at a at ∷ drop (suc at) a) (byte_at b at ∷ drop (suc at) b)
     opened = p.rest ∙ rw (drop-cons a at 0 l, drop-cons b at 0 m)
 
-    pub below_at : byte_at a at < byte_at b at → compared (drop from a) (drop from b) ≡ Below
+    pub below_at : byte_at a at < byte_at b at → compared (drop from a) (drop from b) ≡ Less
     below_at h = opened ∙ first_below _ _ h
 
-    pub above_at : byte_at b at < byte_at a at → compared (drop from a) (drop from b) ≡ Above
+    pub above_at : byte_at b at < byte_at a at → compared (drop from a) (drop from b) ≡ Greater
     above_at h = opened ∙ first_above _ _ h
+
+    pub differ_at : (byte_at a at ≡ byte_at b at → ⊥) → nat_cmp (byte_at a at) (byte_at b at) ≡ compared (drop from a) (drop from b)
+    differ_at h =
+        by_order (byte_at a at) (byte_at b at) (λ l. sym (nat_cmp_is _ _ Less l) ∙ sym (below_at l)) (λ e. absurd (h e))
+        (λ l. sym (nat_cmp_is _ _ Greater l) ∙ sym (above_at l))
 
     pub passed-more : byte_at a at ≡ byte_at b at → Passed a b from (at + 1)
     passed-more e = record { rest = opened ∙ rw (e, add-one) (first-same _ _ _) }
@@ -210,11 +223,11 @@ module _ {a b : List ℕ} {from at : ℕ} (p : Passed a b from at) where
   pub equal-at-end : length a ≤ at → length b ≤ at → compared (drop from a) (drop from b) ≡ Equal
   equal-at-end l m = p.rest ∙ rw (drop_of_length-le a l, drop_of_length-le b m) (compared-refl [])
 
-  pub below-at-end : length a ≤ at → at < length b → compared (drop from a) (drop from b) ≡ Below
+  pub below-at-end : length a ≤ at → at < length b → compared (drop from a) (drop from b) ≡ Less
   unfolding compared
   below-at-end l m = p.rest ∙ rw (drop_of_length-le a l, drop-cons b at 0 m)
 
-  pub above-at-end : at < length a → length b ≤ at → compared (drop from a) (drop from b) ≡ Above
+  pub above-at-end : at < length a → length b ≤ at → compared (drop from a) (drop from b) ≡ Greater
   unfolding compared
   above-at-end l m = p.rest ∙ rw (drop-cons a at 0 l, drop_of_length-le b m)
 
@@ -252,7 +265,7 @@ digits_le : (x y : ℕ) {p r : ℕ} → r < p → x * p ≤ y * p + r → x ≤ 
 digits_le x y l h = by_order x y (λ m. omega arith) (λ e. omega arith) (λ m. absurd (omega (arith, digits_lt m l)))
 
 -- The lower number of the first w bytes is the lower list. A byte past the end counts as 0, so no length is asked for.
-pub below-of-big_at : (w : ℕ) (a b : List ℕ) → Bytes b → big_at a 0 w < big_at b 0 w → compared a b ≡ Below
+pub below-of-big_at : (w : ℕ) (a b : List ℕ) → Bytes b → big_at a 0 w < big_at b 0 w → compared a b ≡ Less
 unfolding big_at compared
 below-of-big_at zero a b v h = absurd (omega arith)
 below-of-big_at (suc w) a [] v h = absurd (omega (arith, big_at-none 1 w))
@@ -263,7 +276,7 @@ below-of-big_at (suc w) (x ∷ a) (y ∷ b) v h =
     below-of-first x y a b (digits_le x y (big_at-below b (λ i. v (suc i)) 0 w) (omega arith))
     (λ e. below-of-big_at w a b (λ i. v (suc i)) (omega (arith, ap (λ (n : ℕ). n * 256 ^ w) e)))
 
-pub above-of-big_at : (w : ℕ) (a b : List ℕ) → Bytes a → big_at b 0 w < big_at a 0 w → compared a b ≡ Above
+pub above-of-big_at : (w : ℕ) (a b : List ℕ) → Bytes a → big_at b 0 w < big_at a 0 w → compared a b ≡ Greater
 above-of-big_at w a b u h = above-of-below b a (below-of-big_at w b a u h)
 
 -- Where both have w bytes, the same number means the same bytes.
@@ -288,12 +301,13 @@ drop-of-big_at w a b u v l m h = compared-drop w a b (take-of-big_at w a b u v l
 
 -- ---- eight bytes at once
 
--- Eight bytes as two halves.
-pub eight-halves : (s : List ℕ) (at : ℕ) → big_at s at 8
-    ≡ (byte_at s at * 16777216 + byte_at s (at + 1) * 65536 + byte_at s (at + 2) * 256 + byte_at s (at + 3)) * 4294967296
-    + (byte_at s (at + 4) * 16777216 + byte_at s (at + 5) * 65536 + byte_at s (at + 6) * 256 + byte_at s (at + 7))
+-- Eight bytes as std reads them.
+pub eight-read : (s : List ℕ) (at : ℕ)
+    → from_be_bytes w64 (byte_at s at ∷ byte_at s (at + 1) ∷ byte_at s (at + 2) ∷ byte_at s (at + 3) ∷ byte_at s (at + 4) ∷ byte_at s (at + 5)
+    ∷ byte_at s (at + 6) ∷ byte_at s (at + 7) ∷ [])
+    ≡ big_at s at 8
 unfolding big_at
-eight-halves s at = rw (add_assoc at 1 1, add_assoc at 2 1, add_assoc at 3 1, add_assoc at 4 1, add_assoc at 5 1, add_assoc at 6 1) (omega arith)
+eight-read s at = rw (add_assoc at 1 1, add_assoc at 2 1, add_assoc at 3 1, add_assoc at 4 1, add_assoc at 5 1, add_assoc at 6 1) (omega arith)
 
 module _ (s : List ℕ) (at : ℕ) where
   pub eight-there : at + 8 ≤ length s → eight_at s at ≡ big_at s at 8
@@ -316,10 +330,10 @@ drop-bytes : (s : List ℕ) (at : ℕ) → Bytes s → Bytes (drop at s)
 drop-bytes s at h i = rw (get_or-drop at s i 0) (h (at + i))
 
 module _ {a b : List ℕ} {from at : ℕ} (p : Passed a b from at) (u : Bytes a) (v : Bytes b) where
-  pub below-eight : big_at a at 8 < big_at b at 8 → compared (drop from a) (drop from b) ≡ Below
+  pub below-eight : big_at a at 8 < big_at b at 8 → compared (drop from a) (drop from b) ≡ Less
   below-eight h = p.rest ∙ below-of-big_at 8 (drop at a) (drop at b) (drop-bytes b at v) (rw (big_at-drop a at 8, big_at-drop b at 8) h)
 
-  pub above-eight : big_at b at 8 < big_at a at 8 → compared (drop from a) (drop from b) ≡ Above
+  pub above-eight : big_at b at 8 < big_at a at 8 → compared (drop from a) (drop from b) ≡ Greater
   above-eight h = p.rest ∙ above-of-big_at 8 (drop at a) (drop at b) (drop-bytes a at u) (rw (big_at-drop a at 8, big_at-drop b at 8) h)
 
   pub passed-eight : at + 8 ≤ length a → at + 8 ≤ length b → big_at a at 8 ≡ big_at b at 8 → Passed a b from (at + 8)
@@ -329,6 +343,11 @@ module _ {a b : List ℕ} {from at : ℕ} (p : Passed a b from at) (u : Bytes a)
         (omega (arith, length-drop at a)) (omega (arith, length-drop at b)) (rw (big_at-drop a at 8, big_at-drop b at 8) h)
         ∙ rw (drop-drop 8 at a, drop-drop 8 at b);
   }
+
+  pub told-eight : (big_at a at 8 ≡ big_at b at 8 → ⊥) → nat_cmp (big_at a at 8) (big_at b at 8) ≡ compared (drop from a) (drop from b)
+  told-eight h =
+      by_order (big_at a at 8) (big_at b at 8) (λ l. sym (nat_cmp_is _ _ Less l) ∙ sym (below-eight l)) (λ e. absurd (h e))
+      (λ l. sym (nat_cmp_is _ _ Greater l) ∙ sym (above-eight l))
 
   pub differ-eight : (big_at a at 8 ≡ big_at b at 8 → ⊥) → same_bytes (drop from a) (drop from b) ≡ false
   differ-eight h =

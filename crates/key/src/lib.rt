@@ -1,41 +1,29 @@
 #![tactic(auto)]
 
 // The order of keys: unsigned bytes from the left.
-ghost use Rattle.std.specs.Prelude.{◌≡◌, ◌+◌, ◌≤◌, ◌<◌, length, drop};
-ghost use Rattle.parts.specs.Part.{byte_at, same_bytes};
+ghost use Rattle.std.specs.Prelude.{◌≡◌, ◌+◌, ◌≤◌, length, drop};
+ghost use Rattle.parts.specs.Part.{same_bytes};
 ghost use Rattle.numbers.specs.Number.{big_at};
 ghost use Rattle.key.specs.Order.{compared, is_below};
 ghost use Rattle.key.specs.Eight.{eight_at};
 
-// How one key stands to another.
-#[derive(Clone, Copy)]
-pub enum Order {
-    Below,
-    Equal,
-    Above,
-}
-
-fn wide(s: &[u8], at: usize) -> u64
-    requires { at < length s.now }
-    ensures { (result ≡ byte_at s.now at) × (result < 256) }
-{
-    s[at] as u64
-}
+use std::cmp::Ordering;
 
 // Eight bytes that are all there, as a big-endian number. The compiler makes one read of it.
 fn eight_inside(s: &[u8], at: usize) -> u64
     requires { at + 8 ≤ length s.now }
     ensures { result ≡ big_at s.now at 8 }
 {
-    let high = wide(s, at) * 16777216
-        + wide(s, at + 1) * 65536
-        + wide(s, at + 2) * 256
-        + wide(s, at + 3);
-    let low = wide(s, at + 4) * 16777216
-        + wide(s, at + 5) * 65536
-        + wide(s, at + 6) * 256
-        + wide(s, at + 7);
-    high * 4294967296 + low
+    u64::from_be_bytes([
+        s[at],
+        s[at + 1],
+        s[at + 2],
+        s[at + 3],
+        s[at + 4],
+        s[at + 5],
+        s[at + 6],
+        s[at + 7],
+    ])
 }
 
 // The eight bytes at an offset, as a big-endian number; 0 where fewer are left.
@@ -52,31 +40,29 @@ pub fn eight(s: &[u8], at: usize) -> u64
 }
 
 // How a stands to b from an offset on, byte by byte.
-fn compare_bytes(a: &[u8], b: &[u8], at: usize) -> Order
+fn compare_bytes(a: &[u8], b: &[u8], at: usize) -> Ordering
     ensures { result ≡ compared (drop at a.now) (drop at b.now) }
 {
-    let mut same = at;
-    while same < a.len() {
+    for same in at..a.len() {
         if b.len() <= same {
-            return Order::Above;
+            return Ordering::Greater;
         }
         let x = a[same];
         let y = b[same];
         if x != y {
-            return if x < y { Order::Below } else { Order::Above };
+            return x.cmp(&y);
         }
-        same += 1;
     }
-    if same < b.len() {
-        Order::Below
+    if a.len().max(at) < b.len() {
+        Ordering::Less
     } else {
-        Order::Equal
+        Ordering::Equal
     }
 }
 
 // How a stands to b. Where one is the beginning of the other, the shorter is below. Eight bytes at once while both have eight left,
 // then byte by byte.
-pub fn compare(a: &[u8], b: &[u8]) -> Order
+pub fn compare(a: &[u8], b: &[u8]) -> Ordering
     ensures { result ≡ compared a.now b.now }
 {
     let mut same = 0;
@@ -87,7 +73,7 @@ pub fn compare(a: &[u8], b: &[u8]) -> Order
         let x = eight_inside(a, same);
         let y = eight_inside(b, same);
         if x != y {
-            return if x < y { Order::Below } else { Order::Above };
+            return x.cmp(&y);
         }
         same += 8;
     }
@@ -98,11 +84,7 @@ pub fn compare(a: &[u8], b: &[u8]) -> Order
 pub fn rises(a: &[u8], b: &[u8]) -> bool
     ensures { result ≡ is_below (compared a.now b.now) }
 {
-    match compare(a, b) {
-        Order::Below => true,
-        Order::Equal => false,
-        Order::Above => false,
-    }
+    compare(a, b).is_lt()
 }
 
 // Whether two keys are the same. A loop of its own: the compiler then makes one function of the comparison and `rises`.
@@ -119,9 +101,5 @@ pub fn same(a: &[u8], b: &[u8]) -> bool
         }
         at += 8;
     }
-    match compare_bytes(a, b, at) {
-        Order::Below => false,
-        Order::Equal => true,
-        Order::Above => false,
-    }
+    compare_bytes(a, b, at).is_eq()
 }

@@ -1,10 +1,10 @@
 -- What C is told of a comparison.
 use Rattle.std.specs.Prelude.{ℕ}
-use Rattle.key.specs.declared.Order.{Order}
-use Rattle.key.specs.declared.Order.TheVariants.{Below, Equal, Above}
+use Rattle.std.specs.declared.cmp.Ordering.{Ordering}
+use Rattle.std.specs.declared.cmp.Ordering.TheVariants.{Less, Equal, Greater}
 
 -- The number of an outcome.
-abbrev pub order_number : Order → ℕ
-order_number Below = 0
+abbrev pub order_number : Ordering → ℕ
+order_number Less = 0
 order_number Equal = 1
-order_number Above = 2
+order_number Greater = 2

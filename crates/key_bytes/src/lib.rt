@@ -5,28 +5,26 @@ ghost use Rattle.std.specs.Prelude.{◌≡◌};
 ghost use Rattle.key.specs.Order.{compared, is_below};
 ghost use Rattle.key_bytes.specs.Told.{order_number};
 
-use key::Order;
+use std::cmp::Ordering;
 
 // How a stands to b. Where one is the beginning of the other, the shorter is below.
-pub fn compare(a: &[u8], b: &[u8]) -> Order
+pub fn compare(a: &[u8], b: &[u8]) -> Ordering
     ensures { result ≡ compared a.now b.now }
 {
-    let mut same = 0;
-    while same < a.len() {
+    for same in 0..a.len() {
         if b.len() <= same {
-            return Order::Above;
+            return Ordering::Greater;
         }
         let x = a[same];
         let y = b[same];
         if x != y {
-            return if x < y { Order::Below } else { Order::Above };
+            return x.cmp(&y);
         }
-        same += 1;
     }
-    if same < b.len() {
-        Order::Below
+    if a.len() < b.len() {
+        Ordering::Less
     } else {
-        Order::Equal
+        Ordering::Equal
     }
 }
 
@@ -34,20 +32,16 @@ pub fn compare(a: &[u8], b: &[u8]) -> Order
 pub fn rises(a: &[u8], b: &[u8]) -> bool
     ensures { result ≡ is_below (compared a.now b.now) }
 {
-    match compare(a, b) {
-        Order::Below => true,
-        Order::Equal => false,
-        Order::Above => false,
-    }
+    compare(a, b).is_lt()
 }
 
 // The number of an outcome for C.
-pub fn tell_order(order: Order) -> u32
+pub fn tell_order(order: Ordering) -> u32
     ensures { result ≡ order_number order }
 {
     match order {
-        Order::Below => 0,
-        Order::Equal => 1,
-        Order::Above => 2,
+        Ordering::Less => 0,
+        Ordering::Equal => 1,
+        Ordering::Greater => 2,
     }
 }

@@ -6,14 +6,8 @@ use lib.Seq.{drop-append-le}
 use Rattle.parts.specs.Part.{overlay}
 use Rattle.parts.proofs.Laws.{overlay-zeros}
 use Rattle.md5_block.specs.declared.Words.{Words}
-use Rattle.md5_block.specs.Block.{shifts, step, steps, word, words_of, sum, block, blocks, whole}
-
--- a round that is none of the first three is the fourth
-pub past_two : (r : ℕ) → (r ≡ 0 → ⊥) → (r ≡ 1 → ⊥) → (r ≡ 2 → ⊥) → (n : ℕ) × (r ≡ suc (suc (suc n)))
-past_two zero p q s = absurd (p refl)
-past_two (suc zero) p q s = absurd (q refl)
-past_two (suc (suc zero)) p q s = absurd (s refl)
-past_two (suc (suc (suc n))) p q s = (n, refl)
+use Rattle.std.specs.Int.{w32, rotate_left}
+use Rattle.md5_block.specs.Block.{shifts, step, steps, word, words_of, sum, block, blocks, whole, rotated}
 
 module _ (t x : List ℕ) (i : ℕ) where
   -- one step more
@@ -109,6 +103,13 @@ pub shift-range : (k : ℕ) → k < 16 → (0 < get_or shifts k 0) × (get_or sh
 unfolding shifts
 shift-range k h =
     (ltb-true _ _ (at_place (λ y. ltb 0 y) shifts refl k h), ltb-true _ _ (at_place (λ y. ltb y 32) shifts refl k h))
+
+-- the rotation of std, by a shift amount
+pub rotated-is : (x s : ℕ) → (0 < s) × (s < 32) → rotate_left w32 x s ≡ rotated x s
+rotated-is x s h =
+    let up : s % 32 ≡ s = omega arith in
+    let down : (32 - s) % 32 ≡ 32 - s = omega arith in
+    rw (up, down)
 
 -- one block: sixteen groups of four steps, and the sum with the words before it
 pub block-is : (t x : List ℕ) (w : Words) {e r : Words} → e ≡ steps t x 0 64 w → r ≡ sum w e → r ≡ block t x w

@@ -5,7 +5,6 @@ ghost use Rattle.std.specs.Prelude.{◌≡◌, ◌+◌, ◌*◌, ◌/◌, ◌%�
 ghost use Rattle.md5_block.specs.Block as spec;
 
 use parts::copy;
-use std::num::wrapping_add_u32;
 
 // A, B, C and D of RFC 1321.
 #[derive(Clone, Copy)]
@@ -95,44 +94,31 @@ pub fn addends() -> [u32; 64]
 }
 
 // F, G, H and I of RFC 1321, by the round. F is written with one operation less after b, on which the next step waits.
+#[tactic(auto, unfolding(crate::specs::Block::mixed))]
 fn mix(round: usize, b: u32, c: u32, d: u32) -> u32
     ensures { result ≡ spec.mixed round b c d }
 {
-    if round == 0 {
-        return d ^ (b & (c ^ d));
+    match round {
+        0 => d ^ (b & (c ^ d)),
+        1 => (b & d) | (c & !d),
+        2 => b ^ c ^ d,
+        _ => c ^ (b | !d),
     }
-    if round == 1 {
-        return (b & d) | (c & !d);
-    }
-    if round == 2 {
-        return b ^ c ^ d;
-    }
-    c ^ (b | !d)
 }
 
 // Which word of the block a step adds.
+#[tactic(auto, unfolding(crate::specs::Block::word_number))]
 fn word_number(round: usize, i: usize) -> usize
     requires { i < 64 }
     ensures value { result ≡ spec.word_number round i }
     ensures upper_bound { result < 16 }
 {
-    if round == 0 {
-        return i % 16;
+    match round {
+        0 => i % 16,
+        1 => (5 * i + 1) % 16,
+        2 => (3 * i + 5) % 16,
+        _ => 7 * i % 16,
     }
-    if round == 1 {
-        return (5 * i + 1) % 16;
-    }
-    if round == 2 {
-        return (3 * i + 5) % 16;
-    }
-    7 * i % 16
-}
-
-fn rotate(x: u32, s: u32) -> u32
-    requires { (0 < s) × (s < 32) }
-    ensures { result ≡ spec.rotated x s }
-{
-    (x << s % 32) | (x >> (32 - s) % 32)
 }
 
 // Step i, with its shift amount. The table of addends is lent: folded into the code as constants they would lengthen the
@@ -142,12 +128,12 @@ fn step(i: usize, s: u32, w: Words, x: &[u32; 16], k: &[u32; 64]) -> Words
     ensures { result ≡ spec.step k.now x.now i w }
 {
     let round = i / 16;
-    let mixed = wrapping_add_u32(w.a, mix(round, w.b, w.c, w.d));
-    let worded = wrapping_add_u32(mixed, x[word_number(round, i)]);
-    let summed = wrapping_add_u32(worded, k[i]);
+    let mixed = w.a.wrapping_add(mix(round, w.b, w.c, w.d));
+    let worded = mixed.wrapping_add(x[word_number(round, i)]);
+    let summed = worded.wrapping_add(k[i]);
     Words {
         a: w.d,
-        b: wrapping_add_u32(w.b, rotate(summed, s)),
+        b: w.b.wrapping_add(summed.rotate_left(s)),
         c: w.b,
         d: w.c,
     }
@@ -167,20 +153,13 @@ pub fn four(g: usize, w: Words, x: &[u32; 16], k: &[u32; 64]) -> Words
     step(i + 3, s[row + 3], w, x, k)
 }
 
-// A byte, widened: its range comes with it.
-fn wide(s: &[u8], at: usize) -> u32
-    requires { at < length s.now }
-    ensures { (result ≡ slice_index s.now at) × (result < 256) }
-{
-    s[at] as u32
-}
-
 // The four bytes at a place, the lowest first.
+#[tactic(auto, unfolding(crate::specs::Block::word))]
 fn word(s: &[u8], at: usize) -> u32
     requires { at + 4 ≤ length s.now }
     ensures { result ≡ spec.word (drop at s.now) }
 {
-    wide(s, at) + wide(s, at + 1) * 256 + wide(s, at + 2) * 65536 + wide(s, at + 3) * 16777216
+    u32::from_le_bytes([s[at], s[at + 1], s[at + 2], s[at + 3]])
 }
 
 fn words_inside(s: &[u8]) -> [u32; 16]
@@ -188,10 +167,8 @@ fn words_inside(s: &[u8]) -> [u32; 16]
     ensures { result ≡ spec.words_of 16 s.now }
 {
     let mut x = [0u32; 16];
-    let mut i = 0;
-    while i < 16 {
+    for i in 0..16 {
         x[i] = word(s, 4 * i);
-        i += 1;
     }
     x
 }
@@ -209,14 +186,15 @@ pub fn block_words(s: &[u8]) -> [u32; 16]
 }
 
 // The sum of two states of the words.
+#[tactic(auto, unfolding(crate::specs::Block::sum))]
 pub fn sum(v: Words, w: Words) -> Words
     ensures { result ≡ spec.sum v w }
 {
     Words {
-        a: wrapping_add_u32(v.a, w.a),
-        b: wrapping_add_u32(v.b, w.b),
-        c: wrapping_add_u32(v.c, w.c),
-        d: wrapping_add_u32(v.d, w.d),
+        a: v.a.wrapping_add(w.a),
+        b: v.b.wrapping_add(w.b),
+        c: v.c.wrapping_add(w.c),
+        d: v.d.wrapping_add(w.d),
     }
 }
 

@@ -1,14 +1,14 @@
 -- A message that is cut into parts: one more part, and the rest.
-use mathlib.Core.Path.{◌≡◌, refl, sym, ap, subst, ◌∙◌}
+use mathlib.Core.Path.{◌≡◌, sym, ap, subst, ◌∙◌}
 use mathlib.Core.Bool.{Bool, true, false, cond}
-use mathlib.Core.List.{List, [], ◌++◌}
-use Prim.Native.Nat.{ℕ, ◌+◌, ◌-◌, ◌≤◌, min}
+use mathlib.Core.List.{List, ◌++◌}
+use Prim.Native.Nat.{ℕ, ◌+◌}
 use native.Mathlib.Omega.{arith}
-use lib.ListN.{length, take, drop, length-take, length-drop, take-append-drop, replicate}
+use lib.ListN.{length, take, drop, length-take, length-drop, take-append-drop}
 use lib.Seq.{take-add, take-append_seam, take_all}
 use Rattle.parts.specs.Part.{part_at}
 use Rattle.md5_digest.specs.declared.Md5.{Md5}
-use Rattle.md5_digest.specs.Message.{fresh, state_after, updated, absorbed, is_too_long, finished, md5, digest_or0}
+use Rattle.md5_digest.specs.Message.{fresh, state_after, updated, absorbed, is_too_long, finished, md5}
 use Rattle.md5_digest.proofs.Cutting.{state-more, state-end, fresh-is}
 use Rattle.md5_calls.specs.Sofar.{Sofar}
 
@@ -46,8 +46,7 @@ module _ (m part : List ℕ) (s r : Md5) (k : Sofar m s) (e : part ≡ part_at m
   pub whole : s.count + length part ≡ length m
   whole = omega (arith, k.inside, ap length e, length-take (length m) (drop s.count m), length-drop s.count m)
 
-  pub digest : is_too_long (length m) ≡ false → finished r ≡ digest_or0 m
+  pub digest : is_too_long (length m) ≡ false → finished r ≡ md5 m
   digest fits =
       ap finished (u ∙ ap (λ b. cond b s (absorbed s part)) (ap is_too_long whole ∙ fits) ∙ joined m part (length m) s r k e u)
       ∙ ap (λ t. finished (state_after t)) (take_all (s.count + length m) m (omega arith)) ∙ state-end m
-      ∙ sym (ap (λ b. cond b (replicate 16 0) (md5 m)) fits)

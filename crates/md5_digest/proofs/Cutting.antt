@@ -14,9 +14,8 @@ use Rattle.refusal.specs.Check.{check_of, refused_if}
 use Rattle.refusal.specs.Number.{hash_limit}
 use Rattle.md5_block.specs.Block.{addends, blocks, whole}
 use Rattle.md5_digest.specs.declared.Md5.{Md5}
-use Rattle.md5_digest.specs.declared.Updated.{Updated}
 use Rattle.md5_digest.specs.Message.{padding, waiting, state_after, absorbed, finished, fresh, digest_of, initial, md5, is_too_long}
-use Rattle.md5_digest.specs.Cutting.{Updates, Run, done, next, AllPassed, none, more, joined, AnyCutting}
+use Rattle.md5_digest.specs.Cutting.{Answer, Updates, Run, done, next, AllPassed, none, more, joined, AnyCutting}
 use Rattle.md5_end.specs.End.{rest, zero_filled}
 use Rattle.md5_end.proofs.EndLaws.{rest-length, whole-rest, rest-append}
 use Rattle.md5_digest.proofs.MessageLaws.{state-is}
@@ -75,31 +74,31 @@ unfolding fresh state_after blocks
 fresh-is = refl
 
 -- one update of the state of some bytes, below the limit and above it
-module _ (m part : List ℕ) (r : Updated) (u : Updates (state_after m) part r) where
-  pub below : length m + length part ≤ 2 ^ 48 → (check_of r.verdict ≡ refused_if false hash_limit 0) × (r.state ≡ state_after (m ++ part))
+module _ (m part : List ℕ) (r : Answer) (t : Md5) (u : Updates (state_after m) part r t) where
+  pub below : length m + length part ≤ 2 ^ 48 → (check_of r ≡ refused_if false hash_limit 0) × (t ≡ state_after (m ++ part))
   unfolding state_after
   below h =
       let e : is_too_long (length m + length part) ≡ false = le-ltb (2 ^ 48) (length m + length part) h in
       (u.said ∙ ap (λ b. refused_if b hash_limit 0) e, u.after ∙ ap (λ b. cond b (state_after m) (absorbed (state_after m) part)) e ∙ state-more m part)
 
-  pub above : 2 ^ 48 < length m + length part → (check_of r.verdict ≡ refused_if true hash_limit 0) × (r.state ≡ state_after m)
+  pub above : 2 ^ 48 < length m + length part → (check_of r ≡ refused_if true hash_limit 0) × (t ≡ state_after m)
   unfolding state_after
   above h =
       let e : is_too_long (length m + length part) ≡ true = lt-ltb (2 ^ 48) (length m + length part) h in
       (u.said ∙ ap (λ b. refused_if b hash_limit 0) e, u.after ∙ ap (λ b. cond b (state_after m) (absorbed (state_after m) part)) e)
 
 -- a run from the state of some bytes
-run_end : (m : List ℕ) (parts : List (List ℕ)) (rs : List Updated) (s e : Md5) → s ≡ state_after m → length (m ++ joined parts) ≤ 2 ^ 48 → Run s parts rs e
+run_end : (m : List ℕ) (parts : List (List ℕ)) (rs : List Answer) (s e : Md5) → s ≡ state_after m → length (m ++ joined parts) ≤ 2 ^ 48 → Run s parts rs e
     → AllPassed rs × (e ≡ state_after (m ++ joined parts))
 unfolding joined refused_if
 run_end m [] [] s e p h done = (none, p ∙ ap state_after (sym (append-nil m)))
 run_end m [] (r ∷ rs) s e p h run = elim run [ ]
 run_end m (part ∷ parts) [] s e p h run = elim run [ ]
-run_end m (part ∷ parts) (r ∷ rs) s e p h (next u run) =
+run_end m (part ∷ parts) (r ∷ rs) s e p h (next {t = t} u run) =
     let fits : length m + length part ≤ 2 ^ 48 = omega (arith, simp length-append at h) in
-    let one = below m part r (subst (λ x. Updates x part r) p u) fits in
+    let one = below m part r t (subst (λ x. Updates x part r t) p u) fits in
     let all : m ++ part ++ joined parts ≡ m ++ (part ++ joined parts) = append_assoc m part (joined parts) in
-    let rest = run_end (m ++ part) parts rs r.state e one.1 (rw all h) run in
+    let rest = run_end (m ++ part) parts rs t e one.1 (rw all h) run in
     (more one.0 rest.0, rest.1 ∙ ap state_after all)
 
 pub any-cutting : AnyCutting
@@ -109,5 +108,5 @@ any-cutting parts rs e h run =
     record {
       passed = end.0;
       digest = ap finished end.1 ∙ state-end (joined parts);
-      limit = λ part r k u. let a = above (joined parts) part r (subst (λ x. Updates x part r) end.1 u) k in (a.0, a.1 ∙ sym end.1);
+      limit = λ part r t k u. let a = above (joined parts) part r t (subst (λ x. Updates x part r t) end.1 u) k in (a.0, a.1 ∙ sym end.1);
     }

@@ -17,7 +17,7 @@ use Rattle.md5_block.proofs.BlockLaws.{whole_append, whole-none}
 use Rattle.md5_end.specs.End.{zeros, rest, zero_filled}
 use Rattle.md5_end.proofs.EndLaws.{over_zeros, rest-length}
 use Rattle.md5_digest.specs.declared.Md5.{Md5}
-use Rattle.md5_digest.specs.Message.{padding, waiting, absorbed, digest_of, initial, md5, is_too_long, digest_or0}
+use Rattle.md5_digest.specs.Message.{waiting, absorbed, is_too_long}
 
 -- the end of a message's waiting bytes is that of the message
 pub waiting-zeros : (p : List ℕ) (n : ℕ) → length p ≡ n % 64 → zeros (length p) ≡ zeros n
@@ -97,13 +97,3 @@ limit-left count n h = go (leb n (2 ^ 48 - count)) refl
     go : (b : Bool) → leb n (2 ^ 48 - count) ≡ b → is_too_long (count + n) ≡ not b
     go true e = le-ltb (2 ^ 48) (count + n) (omega (arith, leb-true n (2 ^ 48 - count) e))
     go false e = over count n (omega (arith, leb-false n (2 ^ 48 - count) e))
-
--- what is told of a message within the limit: its digest, or a part of it
-pub digest-told : (f : List ℕ → List ℕ) (m bytes : List ℕ) (w : Words) → is_too_long (length m) ≡ false → w ≡ whole addends (m ++ padding (length m)) initial
-    → bytes ≡ f (digest_of w) → bytes ≡ f (digest_or0 m)
-unfolding md5
-digest-told f m bytes w e p q = q ∙ ap (λ v. f (digest_of v)) p ∙ ap (λ b. f (cond b (replicate 16 0) (md5 m))) (sym e)
-
--- a message within the limit has its digest
-pub short-hashed : (m bytes : List ℕ) → length m ≤ 2 ^ 48 → bytes ≡ digest_or0 m → bytes ≡ md5 m
-short-hashed m bytes l d = d ∙ ap (λ b. cond b (replicate 16 0) (md5 m)) (le-ltb (2 ^ 48) (length m) l)

@@ -53,7 +53,3 @@ limited total = refused_if (is_too_long total) hash_limit 0
 -- A part that would pass the limit leaves the state as it was (rule H14).
 abbrev pub updated : Md5 → List ℕ → Md5
 updated s part = cond (is_too_long (s.count + length part)) s (absorbed s part)
-
--- The digest of a message; zeros where it is refused (rule G13).
-abbrev pub digest_or0 : List ℕ → List ℕ
-digest_or0 m = cond (is_too_long (length m)) (replicate 16 0) (md5 m)

@@ -1,7 +1,7 @@
-#![tactic(auto)]
+#![tactic(auto, unfolding(refusal::specs::Check::first, refusal::specs::Check::refused_if, refusal::specs::Outcome::after))]
 
 // MD5 (RFC 1321) over bytes that come in parts.
-ghost use Rattle.std.specs.Prelude.{◌≡◌, not, ◌++◌, ◌+◌, ◌-◌, ◌%◌, ◌^◌, ◌≤◌, ◌<◌, length, take};
+ghost use Rattle.std.specs.Prelude.{◌≡◌, not, ◌++◌, ◌+◌, ◌-◌, ◌%◌, ◌^◌, ◌≤◌, ◌<◌, length, take, IfOk};
 ghost use Rattle.refusal.specs.Check.{check_of};
 ghost use Rattle.md5_block.specs.Block.{addends, whole};
 ghost use Rattle.md5_digest.specs.Message as spec;
@@ -9,7 +9,7 @@ ghost use Rattle.md5_digest.specs.Message as spec;
 use md5_block::{Words, addends, blocks};
 use md5_end::{bytes, eight, end, initial, lay_rest};
 use parts::copy;
-use refusal::{HASH_LIMIT, Verdict, refuse};
+use refusal::{Reason, Refusal};
 
 // The most bytes that are hashed in all: 2^48.
 pub const LIMIT: u64 = 281_474_976_710_656;
@@ -21,25 +21,6 @@ pub struct Md5 {
     pub words: Words,
     pub pending: [u8; 64],
     pub count: u64,
-}
-
-#[derive(Clone, Copy)]
-pub struct Updated {
-    pub verdict: Verdict,
-    pub state: Md5,
-}
-
-#[derive(Clone, Copy)]
-pub struct Hashed {
-    pub verdict: Verdict,
-    pub bytes: [u8; 16],
-}
-
-// The first eight bytes of a digest.
-#[derive(Clone, Copy)]
-pub struct FirstEight {
-    pub verdict: Verdict,
-    pub bytes: [u8; 8],
 }
 
 // Whether n more bytes stay within the limit.
@@ -112,20 +93,14 @@ impl Md5 {
     }
 
     // Takes the next part of the message. A refused part leaves the state as it was.
-    pub fn update(self, part: &[u8]) -> Updated
-        ensures verdict { check_of result.verdict ≡ spec.limited (self.count + length part.now) }
-        ensures state { result.state ≡ spec.updated self part.now }
+    pub fn update(self, part: &[u8]) -> (Md5, Result<(), Refusal>)
+        ensures state { result.0 ≡ spec.updated self part.now }
+        ensures check { check_of result.1 ≡ spec.limited (self.count + length part.now) }
     {
         if !within_limit(self.count, part.len() as u64) {
-            return Updated {
-                verdict: refuse(HASH_LIMIT, 0),
-                state: self,
-            };
+            return (self, Err(Reason::HashLimit.at(0)));
         }
-        Updated {
-            verdict: Verdict::Passed,
-            state: absorb(self, part),
-        }
+        (absorb(self, part), Ok(()))
     }
 
     // The digest of all parts.
@@ -147,35 +122,23 @@ fn words_after(message: &[u8]) -> Words
 }
 
 // The digest of bytes that are all at hand.
-pub fn digest(message: &[u8]) -> Hashed
-    ensures verdict { check_of result.verdict ≡ spec.limited (length message.now) }
-    ensures bytes { result.bytes ≡ spec.digest_or0 message.now }
+pub fn digest(message: &[u8]) -> Result<[u8; 16], Refusal>
+    ensures check { check_of result ≡ spec.limited (length message.now) }
+    ensures bytes { IfOk result (λ digest. digest ≡ spec.md5 message.now) }
 {
     if !within_limit(0, message.len() as u64) {
-        return Hashed {
-            verdict: refuse(HASH_LIMIT, 0),
-            bytes: [0u8; 16],
-        };
+        return Err(Reason::HashLimit.at(0));
     }
-    Hashed {
-        verdict: Verdict::Passed,
-        bytes: bytes(words_after(message)),
-    }
+    Ok(bytes(words_after(message)))
 }
 
 // The first eight bytes of the digest of bytes that are all at hand.
-pub fn first_eight(message: &[u8]) -> FirstEight
-    ensures verdict { check_of result.verdict ≡ spec.limited (length message.now) }
-    ensures bytes { result.bytes ≡ take 8 (spec.digest_or0 message.now) }
+pub fn first_eight(message: &[u8]) -> Result<[u8; 8], Refusal>
+    ensures check { check_of result ≡ spec.limited (length message.now) }
+    ensures bytes { IfOk result (λ bytes. bytes ≡ take 8 (spec.md5 message.now)) }
 {
     if !within_limit(0, message.len() as u64) {
-        return FirstEight {
-            verdict: refuse(HASH_LIMIT, 0),
-            bytes: [0u8; 8],
-        };
+        return Err(Reason::HashLimit.at(0));
     }
-    FirstEight {
-        verdict: Verdict::Passed,
-        bytes: eight(words_after(message)),
-    }
+    Ok(eight(words_after(message)))
 }

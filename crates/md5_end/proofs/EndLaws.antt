@@ -1,27 +1,22 @@
 -- Laws of the definitions in specs/End.antt.
 use mathlib.Core.Path.{◌≡◌, refl, sym, ap, ap₂, ◌∙◌}
-use mathlib.Core.Bool.{Bool, true, false, not, cond}
 use mathlib.Core.List.{List, [], ◌∷◌, ◌++◌, append_assoc, append-nil}
 use Prim.Native.Nat.{ℕ, zero, suc, ◌+◌, ◌-◌, ◌*◌, ◌/◌, ◌%◌, ◌^◌, ◌≤◌, ◌<◌}
 use native.Mathlib.Nat.{zero-add, suc-add, mul_assoc, pow-suc}
-use native.Mathlib.Numerals.{add-one}
 use native.Mathlib.Omega.{arith}
-use borrow.Author.Tests.{lt-ltb, le-ltb, ltb-true, ltb-false, leb-true, leb-false}
-use lib.Dec.{ltb, leb}
-use lib.ListN.{length, get_or, take, drop, set, replicate, length-append, length-drop, length-replicate}
+use Rattle.std.specs.Int.{w64, to_le_bytes}
+use lib.ListN.{length, take, drop, set, replicate, length-append, length-drop, length-replicate}
 use lib.ListN.{take-append-drop, drop_of_length-le, replicate-append-replicate}
-use lib.Seq.{drop-drop, take-append-le, take-append_seam, drop-append-add, drop_at, take_at, set-append_seam, take_all, length-take-le, drop-cons}
+use lib.Seq.{drop-append-add, drop_at, take_at, set-append_seam, length-take-le}
 use Rattle.parts.specs.Part.{overlay}
 use Rattle.parts.proofs.Laws.{overlay-inside, overlay-after, part_to_end}
 use Rattle.md5_block.specs.declared.Words.{Words}
 use Rattle.md5_block.specs.Block.{words_of, block, blocks, whole}
-use Rattle.md5_block.proofs.BlockLaws.{whole_append, whole-none, whole-one, blocks-append}
+use Rattle.md5_block.proofs.BlockLaws.{whole_append, whole-none, whole-one}
 use Rattle.md5_end.specs.End.{little_bytes, padded, zeros, rest, zero_filled}
 
--- a number's eight bytes, by one division each
-pub eight-bytes : (x : ℕ) → little_bytes 8 x
-    ≡ x % 256 ∷ x / 256 % 256 ∷ x / 65536 % 256 ∷ x / 16777216 % 256 ∷ x / 4294967296 % 256 ∷ x / 1099511627776 % 256 ∷ x / 281474976710656 % 256
-    ∷ x / 72057594037927936 % 256 ∷ []
+-- the bytes that std tells of a number of 64 bits
+pub eight-bytes : (x : ℕ) → to_le_bytes w64 x ≡ little_bytes 8 x
 unfolding little_bytes
 eight-bytes x =
     let b : x / 256 / 256 ≡ x / 65536 = omega arith in
@@ -56,10 +51,10 @@ little-append (suc m) k x y h =
     ∙ ap₂ (λ a l. a ∷ l) (low_byte m x y) (ap (little_bytes (m + k)) (high-bytes m x y) ∙ little-append m k (x / 256) y fits)
 
 -- the number of bits, modulo 2^64
-pub bits-modulo : (n : ℕ) → little_bytes 8 (n % 2305843009213693952 * 8) ≡ little_bytes 8 (n * 8)
+pub bits-modulo : (n : ℕ) → little_bytes 8 (n * 8 % 2 ^ 64) ≡ little_bytes 8 (n * 8)
 bits-modulo n =
-    let e : n % 2305843009213693952 * 8 + n / 2305843009213693952 * 256 ^ 8 ≡ n * 8 = omega arith in
-    sym (little-more 8 (n % 2305843009213693952 * 8) (n / 2305843009213693952)) ∙ ap (little_bytes 8) e
+    let e : n * 8 % 2 ^ 64 + n * 8 / 2 ^ 64 * 256 ^ 8 ≡ n * 8 = omega arith in
+    sym (little-more 8 (n * 8 % 2 ^ 64) (n * 8 / 2 ^ 64)) ∙ ap (little_bytes 8) e
 
 -- two words as one number
 pub two-words : (a b : ℕ) → a < 4294967296 → little_bytes 8 (a + b * 4294967296) ≡ little_bytes 4 a ++ little_bytes 4 b

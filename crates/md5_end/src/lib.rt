@@ -21,28 +21,12 @@ pub fn initial() -> Words
     }
 }
 
-// The eight bytes of a number, the lowest first.
-fn little(x: u64) -> [u8; 8]
-    ensures { result ≡ spec.little_bytes 8 x }
-{
-    [
-        (x % 256) as u8,
-        (x / 256 % 256) as u8,
-        (x / 65_536 % 256) as u8,
-        (x / 16_777_216 % 256) as u8,
-        (x / 4_294_967_296 % 256) as u8,
-        (x / 1_099_511_627_776 % 256) as u8,
-        (x / 281_474_976_710_656 % 256) as u8,
-        (x / 72_057_594_037_927_936 % 256) as u8,
-    ]
-}
-
 // Puts a message's length into the last eight bytes of a block: eight times the number of bytes, modulo 2^64.
 fn put_length(t: &mut [u8; 64], count: u64)
     ensures t_after { t.new ≡ take 56 t.old ++ spec.little_bytes 8 (count * 8) }
     ensures t_len { length t.new ≡ 64 }
 {
-    let length = little(count % 2_305_843_009_213_693_952 * 8);
+    let length = count.wrapping_mul(8).to_le_bytes();
     copy(&length, t, 56);
 }
 
@@ -99,21 +83,21 @@ pub fn end(w: Words, s: &[u8], count: u64) -> Words
 fn pair(a: u32, b: u32) -> u64
     ensures { result ≡ a + b * 2 ^ 32 }
 {
-    a as u64 + b as u64 * 4_294_967_296
+    u64::from(a) + u64::from(b) * 4_294_967_296
 }
 
 // The first eight bytes of the digest that the words are.
 pub fn eight(w: Words) -> [u8; 8]
     ensures { result ≡ take 8 (spec.digest_of w) }
 {
-    little(pair(w.a, w.b))
+    pair(w.a, w.b).to_le_bytes()
 }
 
 pub fn bytes(w: Words) -> [u8; 16]
     ensures { result ≡ spec.digest_of w }
 {
-    let low = little(pair(w.a, w.b));
-    let high = little(pair(w.c, w.d));
+    let low = pair(w.a, w.b).to_le_bytes();
+    let high = pair(w.c, w.d).to_le_bytes();
     let mut d = [0u8; 16];
     copy(&low, &mut d, 0);
     copy(&high, &mut d, 8);

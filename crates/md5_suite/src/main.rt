@@ -1,8 +1,8 @@
-#![tactic(auto)]
+#![tactic(auto, unfolding(refusal::specs::Check::refused_if))]
 
 // Prints MD5 digests for a comparison: of the strings of RFC 1321's suite, of data of many lengths in one call, and of data
 // that comes in parts. One digest to a line.
-ghost use Rattle.std.specs.Prelude.{◌≡◌, ◌^◌, ◌≤◌, ◌<◌, min, length, take};
+ghost use Rattle.std.specs.Prelude.{◌≡◌, ◌^◌, ◌≤◌, ◌<◌, length, take};
 ghost use Rattle.text.specs.Text.{hex as Text·hex};
 ghost use Rattle.md5_digest.specs.Message.{md5 as Message·md5};
 ghost use Rattle.md5_suite.specs.Suite.{data_byte, data_of};
@@ -10,12 +10,6 @@ ghost use Rattle.md5_suite.specs.Suite.{data_byte, data_of};
 use std::io;
 use std::io::Write;
 use text::put_hex;
-
-fn least(a: usize, b: usize) -> usize
-    ensures { result ≡ min a b }
-{
-    if a < b { a } else { b }
-}
 
 // Byte i of the data.
 fn data_byte(i: usize) -> u8
@@ -30,10 +24,8 @@ fn fill(to: &mut [u8])
     requires { length to.old ≤ 2 ^ 48 }
     ensures { to.new ≡ data_of (length to.old) }
 {
-    let mut i = 0;
-    while i < to.len() {
-        to[i] = data_byte(i);
-        i += 1;
+    for (i, byte) in to.iter_mut().enumerate() {
+        *byte = data_byte(i);
     }
 }
 
@@ -50,8 +42,7 @@ fn in_one_call(s: &[u8]) -> [u8; 16]
     requires { length s.now ≤ 2 ^ 48 }
     ensures { result ≡ Message·md5 s.now }
 {
-    let hashed = md5_digest::digest(s);
-    hashed.bytes
+    md5_digest::digest(s).unwrap()
 }
 
 // The first n bytes of `s`.
@@ -70,9 +61,9 @@ fn in_parts(s: &[u8], size: usize) -> [u8; 16]
     let mut state = md5_digest::Md5::new();
     let mut at = 0;
     while at < s.len() {
-        let end = at + least(size, s.len() - at);
-        let updated = state.update(&s[at..end]);
-        state = updated.state;
+        let end = at + size.min(s.len() - at);
+        let (next, _) = state.update(&s[at..end]);
+        state = next;
         at = end;
     }
     state.finish()
@@ -139,10 +130,8 @@ fn strings(out: &mut impl Write) -> io::Result<()> {
 fn short_lengths(out: &mut impl Write, s: &[u8]) -> io::Result<()>
     requires { 200 ≤ length s.now }
 {
-    let mut n = 0;
-    while n <= 200 {
+    for n in 0..=200 {
         length_line(out, first(s, n))?;
-        n += 1;
     }
     Ok(())
 }

@@ -1,22 +1,21 @@
 -- Laws of two messages at once: each by itself.
 use mathlib.Core.Path.{◌≡◌, sym, ap, ap₂, ◌∙◌}
-use mathlib.Core.Bool.{false, cond}
+use mathlib.Core.Bool.{false}
 use mathlib.Core.List.{List, [], ◌++◌}
 use Prim.Native.Nat.{ℕ, ◌+◌, ◌-◌, ◌*◌, ◌/◌, ◌%◌, ◌≤◌}
+use native.Mathlib.Nat.{zero-add}
 use native.Mathlib.Omega.{arith}
-use lib.ListN.{length, take, drop, replicate, length-append, length-replicate, drop_of_length-le}
-use Rattle.refusal.specs.Check.{check_of, silent, refused_if}
+use lib.ListN.{length, length-append, length-replicate, drop_of_length-le}
+use Rattle.refusal.specs.Check.{silent, refused_if}
 use Rattle.md5_block.specs.declared.Words.{Words}
-use Rattle.md5_block.specs.Block.{addends, steps, words_of, sum, block, blocks, whole}
+use Rattle.md5_block.specs.Block.{addends, words_of, sum, block, whole}
 use Rattle.md5_block.proofs.BlockLaws.{all-steps, block-is, whole-one}
-use Rattle.md5_digest.specs.declared.FirstEight.{FirstEight}
-use Rattle.md5_digest.specs.declared.Hashed.{Hashed}
 use Rattle.md5_end.specs.End.{padded, zeros, rest}
 use Rattle.md5_end.proofs.EndLaws.{little-length, rest-length, whole-rest}
 use Rattle.md5_digest.proofs.MessageLaws.{waiting-zeros}
-use Rattle.md5_digest.specs.Message.{initial, padding, digest_of, md5, is_too_long, limited, digest_or0}
+use Rattle.md5_digest.specs.Message.{initial, padding, digest_of, md5, is_too_long, limited}
 use Rattle.md5_two.specs.declared.Two.{Two}
-use Rattle.md5_two.specs.Two.{FirstEightOf, both, steps_two, block_two, whole_two}
+use Rattle.md5_two.specs.Two.{both, steps_two, block_two}
 
 pub paired : {v w : Words} {u : Two} → u.first ≡ v → u.second ≡ w → u ≡ both v w
 paired p q = λ i. record { first = p i; second = q i }
@@ -82,17 +81,10 @@ end-itself s left n w e r l p q h =
     h ∙ ap₂ (λ a b. whole addends (left ++ a) b) same q ∙ ap (λ a. whole addends (a ++ padded (zeros (length s)) (length s)) (whole addends s w)) p
     ∙ sym (whole-rest addends s (padded (zeros (length s)) (length s)) w)
 
--- the answer for a message within the limit
-pub passed_is : (m : List ℕ) (n : ℕ) (w : Words) (r : FirstEight) → n ≡ length m → is_too_long n ≡ false → w ≡ whole addends (m ++ padding (length m)) initial
-    → (check_of r.verdict ≡ silent) × (r.bytes ≡ take 8 (digest_of w)) → FirstEightOf m r
+-- a message within the limit: no refusal, and its digest or a part of it
+pub within : (f : List ℕ → List ℕ) (m bytes : List ℕ) (n : ℕ) (w : Words) → n ≡ length m → is_too_long (0 + n) ≡ false
+    → w ≡ whole addends (m ++ padding (length m)) initial → bytes ≡ f (digest_of w) → (silent ≡ limited (length m)) × (bytes ≡ f (md5 m))
 unfolding refused_if md5
-passed_is m n w r l f p q =
-    let e : is_too_long (length m) ≡ false = ap is_too_long (sym l) ∙ f in
-    (rw e q.0, rw e (q.1 ∙ ap (λ v. take 8 (digest_of v)) p))
-
-pub hashed-is : (m : List ℕ) (n : ℕ) (w : Words) (r : Hashed) → n ≡ length m → is_too_long n ≡ false → w ≡ whole addends (m ++ padding (length m)) initial
-    → (check_of r.verdict ≡ silent) × (r.bytes ≡ digest_of w) → (check_of r.verdict ≡ limited (length m)) × (r.bytes ≡ digest_or0 m)
-unfolding refused_if md5
-hashed-is m n w r l f p q =
-    let e : is_too_long (length m) ≡ false = ap is_too_long (sym l) ∙ f in
-    (rw e q.0, rw e (q.1 ∙ ap digest_of p))
+within f m bytes n w l g p q =
+    let e : is_too_long (length m) ≡ false = ap is_too_long (sym l ∙ sym (zero-add n)) ∙ g in
+    (rw e, q ∙ ap (λ v. f (digest_of v)) p)

@@ -1,15 +1,19 @@
 -- Two messages at once: no rule of its own, each message by itself (rules H1 and H9).
-use Rattle.std.specs.Prelude.{◌≡◌, List, ℕ, length, take}
+use Rattle.std.specs.Prelude.{◌≡◌, List, ℕ, length, take, Result, IfOk}
 use Rattle.md5_block.specs.declared.Words.{Words}
 use Rattle.md5_block.specs.Block.{steps, block, whole}
-use Rattle.md5_digest.specs.declared.FirstEight.{FirstEight}
-use Rattle.md5_digest.specs.Message.{limited, digest_or0}
+use Rattle.md5_digest.specs.Message.{limited, md5}
+use Rattle.refusal.specs.declared.Refusal.{Refusal}
 use Rattle.refusal.specs.Check.{check_of}
 use Rattle.md5_two.specs.declared.Two.{Two}
 
--- The answer for one message: its own verdict, and the first eight bytes of its digest (rule H9).
-abbrev pub FirstEightOf : List ℕ → FirstEight → Type 0
-FirstEightOf m r = (check_of r.verdict ≡ limited (length m)) × (r.bytes ≡ take 8 (digest_or0 m))
+-- The answer for one message: its digest, or its own refusal.
+abbrev pub DigestOf : List ℕ → Result (List ℕ) Refusal → Type 0
+DigestOf m r = (check_of r ≡ limited (length m)) × IfOk r (λ bytes. bytes ≡ md5 m)
+
+-- The same of the first eight bytes of the digest (rule H9).
+abbrev pub FirstEightOf : List ℕ → Result (List ℕ) Refusal → Type 0
+FirstEightOf m r = (check_of r ≡ limited (length m)) × IfOk r (λ bytes. bytes ≡ take 8 (md5 m))
 
 -- What the private functions ensure.
 abbrev pub both : Words → Words → Two

@@ -1,30 +1,22 @@
-#![tactic(auto)]
+#![tactic(auto, unfolding(refusal::specs::Check::refused_if))]
 
 // Two messages hashed at once, a block of each at a time. A step of MD5 waits for the step before it,
 // but not for those of the other message, so that two blocks in turn take little longer than one.
-ghost use Rattle.std.specs.Prelude.{◌≡◌, ◌++◌, ◌*◌, ◌%◌, length, take};
-ghost use Rattle.refusal.specs.Check.{check_of, silent};
+ghost use Rattle.std.specs.Prelude.{◌≡◌, ◌++◌, ◌*◌, ◌%◌, length};
 ghost use Rattle.md5_block.specs.Block.{addends, whole};
-ghost use Rattle.md5_digest.specs.Message.{initial, padding, digest_of, limited, digest_or0};
+ghost use Rattle.md5_digest.specs.Message.{initial, padding};
 ghost use Rattle.md5_two.specs.Two as spec;
 
 use md5_block::{Words, addends, block_words, four, sum};
-use md5_digest::{FirstEight, Hashed, digest, first_eight, within_limit};
+use md5_digest::{digest, first_eight, within_limit};
 use md5_end::{bytes, eight, end, initial, last_words};
-use refusal::Verdict;
+use refusal::Refusal;
 
 // The words of two messages.
 #[derive(Clone, Copy)]
 pub struct Two {
     pub first: Words,
     pub second: Words,
-}
-
-// The first eight bytes of two digests.
-#[derive(Clone, Copy)]
-pub struct TwoFirstEights {
-    pub first: FirstEight,
-    pub second: FirstEight,
 }
 
 // The four steps of group g, of each message.
@@ -102,52 +94,21 @@ fn together(a: &[u8], b: &[u8]) -> Two
     block_two(e, &x, &x, &k)
 }
 
-fn one_by_one(a: &[u8], b: &[u8]) -> TwoFirstEights
-    ensures first { spec.FirstEightOf a.now result.first }
-    ensures second { spec.FirstEightOf b.now result.second }
-{
-    TwoFirstEights {
-        first: first_eight(a),
-        second: first_eight(b),
-    }
-}
-
-fn passed(w: Words) -> FirstEight
-    ensures { (check_of result.verdict ≡ silent) × (result.bytes ≡ take 8 (digest_of w)) }
-{
-    FirstEight {
-        verdict: Verdict::Passed,
-        bytes: eight(w),
-    }
-}
-
 // The first eight bytes of the digests of two messages, or a refusal of each. Of one length in whole blocks they are hashed
 // together.
-pub fn first_eight_of_two(a: &[u8], b: &[u8]) -> TwoFirstEights
-    ensures first { (check_of result.first.verdict ≡ limited (length a.now)) × (result.first.bytes ≡ take 8 (digest_or0 a.now)) }
-    ensures second { (check_of result.second.verdict ≡ limited (length b.now)) × (result.second.bytes ≡ take 8 (digest_or0 b.now)) }
+pub fn first_eight_of_two(
+    a: &[u8],
+    b: &[u8],
+) -> (Result<[u8; 8], Refusal>, Result<[u8; 8], Refusal>)
+    ensures first { spec.FirstEightOf a.now result.0 }
+    ensures second { spec.FirstEightOf b.now result.1 }
 {
     let n = a.len();
-    if n != b.len() || n % 64 != 0 {
-        return one_by_one(a, b);
-    }
-    if !within_limit(0, n as u64) {
-        return one_by_one(a, b);
+    if n != b.len() || n % 64 != 0 || !within_limit(0, n as u64) {
+        return (first_eight(a), first_eight(b));
     }
     let w = together(a, b);
-    let v = w.first;
-    let u = w.second;
-    TwoFirstEights {
-        first: passed(v),
-        second: passed(u),
-    }
-}
-
-// The digests of two messages.
-#[derive(Clone, Copy)]
-pub struct TwoHashed {
-    pub first: Hashed,
-    pub second: Hashed,
+    (Ok(eight(w.first)), Ok(eight(w.second)))
 }
 
 // The whole blocks of two messages of one length together, and then the end of each by itself.
@@ -172,31 +133,14 @@ fn ended(a: &[u8], b: &[u8]) -> Two
     }
 }
 
-fn hashed(w: Words) -> Hashed
-    ensures { (check_of result.verdict ≡ silent) × (result.bytes ≡ digest_of w) }
-{
-    Hashed {
-        verdict: Verdict::Passed,
-        bytes: bytes(w),
-    }
-}
-
 // The digests of two messages, or a refusal of each. Of one length they are hashed together.
-pub fn digests(a: &[u8], b: &[u8]) -> TwoHashed
-    ensures first { (check_of result.first.verdict ≡ limited (length a.now)) × (result.first.bytes ≡ digest_or0 a.now) }
-    ensures second { (check_of result.second.verdict ≡ limited (length b.now)) × (result.second.bytes ≡ digest_or0 b.now) }
+pub fn digests(a: &[u8], b: &[u8]) -> (Result<[u8; 16], Refusal>, Result<[u8; 16], Refusal>)
+    ensures first { spec.DigestOf a.now result.0 }
+    ensures second { spec.DigestOf b.now result.1 }
 {
-    if a.len() == b.len() && within_limit(0, a.len() as u64) {
-        let w = ended(a, b);
-        let v = w.first;
-        let u = w.second;
-        return TwoHashed {
-            first: hashed(v),
-            second: hashed(u),
-        };
+    if a.len() != b.len() || !within_limit(0, a.len() as u64) {
+        return (digest(a), digest(b));
     }
-    TwoHashed {
-        first: digest(a),
-        second: digest(b),
-    }
+    let w = ended(a, b);
+    (Ok(bytes(w.first)), Ok(bytes(w.second)))
 }

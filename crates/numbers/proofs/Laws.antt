@@ -1,10 +1,11 @@
 -- Laws of the numbers at an offset, over all widths, and of numbers between two bounds.
 use mathlib.Core.Path.{◌≡◌, refl, sym, ap₂, ◌∙◌}
 use mathlib.Core.List.{List}
-use mathlib.Core.Bool.{true, false, and-false, and-eq-true_iff}
+use mathlib.Core.Bool.{Bool, true, false, and-false, and-eq-true_iff}
+use Rattle.std.specs.Prelude.{IsTrue, ◌↔◌}
 use mathlib.Core.Logic.{◌⊎◌, inl, inr}
 use borrow.Author.Tests.{le-leb, lt-leb, leb-true}
-use Prim.Native.Nat.{◌≤◌, ℕ, zero, suc, ◌+◌, ◌-◌, ◌*◌, ◌^◌, ◌<◌}
+use Prim.Native.Nat.{◌≤◌, ℕ, zero, suc, ◌+◌, ◌*◌, ◌^◌, ◌<◌}
 use native.Mathlib.Nat.{add-zero, mul_assoc, pow-suc, pow-succ', pow-le-pow_right, lt_of_lt_of_le, zero-lt-suc}
 use native.Mathlib.Omega.{arith}
 use lib.Arith.{digits_lt}
@@ -93,3 +94,11 @@ module _ (low high x : ℕ) where
   within-range e =
       let both = (and-eq-true_iff (leb low x) (leb x high)).0 e in
       (leb-true low x both.0, leb-true x high both.1)
+
+  pub within-told : (b : Bool) → (IsTrue b ↔ ((low ≤ x) × (x ≤ high))) → b ≡ within x low high
+  within-told true h = let i = h.0 refl in sym (within-inside i.0 i.1)
+  within-told false h = go (within x low high) refl
+    where
+      go : (t : Bool) → within x low high ≡ t → false ≡ t
+      go true e = h.1 (within-range e)
+      go false e = refl

@@ -6,20 +6,13 @@ ghost use Rattle.parts.specs.Part.{byte_at};
 ghost use Rattle.numbers.specs.Number as spec;
 ghost use Rattle.numbers.specs.Number.{big_at, little_at};
 
-use parts::{copy, least, part, rest};
+use parts::{copy, part};
 
 // Whether a number lies between two bounds.
 pub fn within(x: u32, low: u32, high: u32) -> bool
     ensures { result ≡ spec.within x low high }
 {
-    low <= x && x <= high
-}
-
-// A byte as a `u64`. A cast at the read itself would ask each reader to show that the byte fits.
-fn wide(x: u8) -> u64
-    ensures { result ≡ x }
-{
-    x as u64
+    (low..=high).contains(&x)
 }
 
 // The eight bytes from an offset on, with zeros past the end: what a number that runs past the end is read from.
@@ -36,11 +29,9 @@ fn big_inside(s: &[u8], at: usize, width: usize) -> u64
     requires { (width ≤ 8) × (width ≤ length s.now - at) }
     ensures { result ≡ big_at s.now at width }
 {
-    let mut number = 0;
-    let mut read = 0;
-    while read < width {
-        number = number * 256 + wide(s[at + read]);
-        read += 1;
+    let mut number: u64 = 0;
+    for read in 0..width {
+        number = number * 256 + u64::from(s[at + read]);
     }
     number
 }
@@ -49,8 +40,8 @@ fn big_inside(s: &[u8], at: usize, width: usize) -> u64
 pub fn big(s: &[u8], at: usize, width: usize) -> u64
     ensures { result ≡ big_at s.now at (min width 8) }
 {
-    let w = least(width, 8);
-    if w <= rest(s.len(), at) {
+    let w = width.min(8);
+    if w <= s.len().saturating_sub(at) {
         return big_inside(s, at, w);
     }
     let near = padded(s, at);
@@ -62,11 +53,9 @@ fn little_inside(s: &[u8], at: usize, width: usize) -> u64
     requires { (width ≤ 8) × (width ≤ length s.now - at) }
     ensures { result ≡ little_at s.now at width }
 {
-    let mut number = 0;
-    let mut left = width;
-    while 0 < left {
-        left -= 1;
-        number = number * 256 + wide(s[at + left]);
+    let mut number: u64 = 0;
+    for left in (0..width).rev() {
+        number = number * 256 + u64::from(s[at + left]);
     }
     number
 }
@@ -75,8 +64,8 @@ fn little_inside(s: &[u8], at: usize, width: usize) -> u64
 pub fn little(s: &[u8], at: usize, width: usize) -> u64
     ensures { result ≡ little_at s.now at (min width 8) }
 {
-    let w = least(width, 8);
-    if w <= rest(s.len(), at) {
+    let w = width.min(8);
+    if w <= s.len().saturating_sub(at) {
         return little_inside(s, at, w);
     }
     let near = padded(s, at);

@@ -8,7 +8,10 @@ use native.Mathlib.Omega.{arith}
 use lib.Dec.{eqb}
 use lib.ListN.{length, take, drop, replicate, length-append, length-take, length-drop, length-replicate, get_or-replicate}
 use lib.Seq.{take-append_seam, drop-append-add, drop-drop, take-nil, drop-nil, take-length, take_all, take-take, get_or-take, get_or-drop, ext_get_or, paste}
+use lib.Pointwise.{pointwise}
+use Rattle.std.specs.Prelude.{IsTrue, EachIndex, ◌↔◌}
 use borrow.Author.Tests.{eq-eqb, eqb-true}
+use Rattle.std.specs.Cmp.Lexicographic.{same_text, other_text}
 use Rattle.parts.specs.Part.{byte_at, part_at, same_bytes, all_zero, overlay}
 
 -- ---- parts
@@ -89,6 +92,14 @@ unless false h = refl
 pub same_bytes-not : (a b : List ℕ) → (a ≡ b → ⊥) → same_bytes a b ≡ false
 same_bytes-not a b h = unless (same_bytes a b) (λ e. h (same_bytes-eq a b e))
 
+-- the comparison of std
+pub compared-same : (a b : List ℕ) → pointwise eqb a b ≡ same_bytes a b
+compared-same a b = go (pointwise eqb a b) refl
+  where
+    go : (t : Bool) → pointwise eqb a b ≡ t → t ≡ same_bytes a b
+    go true e = sym (same_bytes-of-eq a b (same_text a b (sym e)))
+    go false e = sym (same_bytes-not a b (other_text a b (sym e)))
+
 -- ---- zeros
 
 pub all_zero-byte : (s : List ℕ) → all_zero s ≡ true → (i : ℕ) → byte_at s i ≡ 0
@@ -96,9 +107,6 @@ unfolding all_zero
 all_zero-byte [] e i = refl
 all_zero-byte (x ∷ s) e zero = eqb-true x 0 (both (eqb x 0) (all_zero s) e).0
 all_zero-byte (x ∷ s) e (suc i) = all_zero-byte s (both (eqb x 0) (all_zero s) e).1 i
-
-pub all_zero-not : (s : List ℕ) (i : ℕ) → (byte_at s i ≡ 0 → ⊥) → all_zero s ≡ false
-all_zero-not s i h = unless (all_zero s) (λ e. h (all_zero-byte s e i))
 
 zeros : (s : List ℕ) → ((i : ℕ) → i < length s → byte_at s i ≡ 0) → s ≡ replicate (length s) 0
 zeros s h =
@@ -119,6 +127,11 @@ all_zero-of-eq s e = subst (λ (l : List ℕ). all_zero l ≡ true) (sym e) (all
 pub all_zero-of-bytes : (s : List ℕ) → ((i : ℕ) → i < length s → byte_at s i ≡ 0) → all_zero s ≡ true
 all_zero-of-bytes s h = all_zero-of-eq s (zeros s h)
 
+-- a test of each byte
+pub all_zero-told : (s : List ℕ) (b : Bool) → (IsTrue b ↔ EachIndex s (λ k. byte_at s k ≡ 0)) → b ≡ all_zero s
+all_zero-told s true h = sym (all_zero-of-bytes s (h.0 refl))
+all_zero-told s false h = sym (unless (all_zero s) (λ e. false≢true (h.1 (λ i l. all_zero-byte s e i))))
+
 -- ---- bytes laid over others
 
 pub overlay-length : (to : List ℕ) (at : ℕ) (from : List ℕ) → length (overlay to at from) ≡ length to
@@ -137,6 +150,13 @@ overlay-paste (x ∷ to) zero [] = simp zero-min
 overlay-paste (x ∷ to) zero (y ∷ from) =
     simp (sub-zero, zero-add, suc-min-suc)
     (ap (λ (r : List ℕ). y ∷ r) (simp (sub-zero, zero-add) at (overlay-paste to zero from)))
+
+-- past the end of the list nothing is laid, as at its end
+pub overlay-clipped : (to : List ℕ) (at : ℕ) (from : List ℕ) → overlay to (min at (length to)) from ≡ overlay to at from
+unfolding overlay
+overlay-clipped [] at from = refl
+overlay-clipped (x ∷ to) zero from = rw zero-min
+overlay-clipped (x ∷ to) (suc at) from = rw suc-min-suc (ap (λ (r : List ℕ). x ∷ r) (overlay-clipped to at from))
 
 pub overlay-inside : (to : List ℕ) (at : ℕ) (from : List ℕ) → at + length from ≤ length to
     → overlay to at from ≡ take at to ++ from ++ drop (at + length from) to

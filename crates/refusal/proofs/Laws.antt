@@ -5,13 +5,13 @@ use Prim.Native.Nat.{ℕ, zero, suc, ◌+◌, ◌-◌, ◌≤◌, ◌<◌}
 use native.Mathlib.Nat.{add-zero, not-suc-le-zero, le_of_suc-le-suc}
 use native.Mathlib.Omega.{arith}
 use mathlib.Core.List.{List}
+use Rattle.std.specs.Prelude.{Result, Ok, Err}
 use Rattle.refusal.specs.declared.Refusal.{Refusal}
-use Rattle.refusal.specs.declared.Verdict.{Verdict}
-use Rattle.refusal.specs.declared.Verdict.TheVariants.{Passed, Refused}
+use Rattle.refusal.specs.Number.{number_of}
 use Rattle.refusal.specs.Check.{Check, silent, refused, refused_if, first, first_from, check_of}
-use Rattle.refusal.specs.Outcome.{Outcome, answered, refusal, after}
+use Rattle.refusal.specs.Outcome.{Outcome, answered, refusal, after, outcome_by}
 
-never : {number place : ℕ} → refused number place ≡ silent → ⊥
+pub never : {number place : ℕ} → refused number place ≡ silent → ⊥
 never e = let z : ◌≡◌ {A = ℕ} 0 1 = cc in omega arith
 
 -- a silent sequence is silent in both parts
@@ -60,15 +60,6 @@ pub first-assoc : (a b c : Check) → first (first a b) c ≡ first a (first b c
 unfolding first
 first-assoc silent b c = refl
 first-assoc (refused number place) b c = refl
-
--- a sequence, after a verdict
-pub first-refused : (v : Verdict) (later : Check) {r : Refusal} → v ≡ Refused r → check_of v ≡ first (check_of v) later
-unfolding first check_of
-first-refused v later e = rw e
-
-pub first-passed : (v : Verdict) (later : Check) → v ≡ Passed → first (check_of v) later ≡ later
-unfolding first check_of
-first-passed v later e = rw e
 
 -- the first of numbered checks that refuses: one more, and the end
 pub from-said : (check : ℕ → Check) (i n : ℕ) {number place : ℕ} → 0 < n → check i ≡ refused number place → first_from check i n ≡ refused number place
@@ -119,13 +110,11 @@ from-silent check i zero h = refl
 from-silent check i (suc n) h =
     skip (h i (omega arith) (omega arith)) (from-silent check (suc i) n (λ j a b. h j (omega arith) (omega arith)))
 
--- a verdict that is handed on
-pub refused-is : (v : Verdict) (k : Check) {r : Refusal} → check_of v ≡ k → v ≡ Refused r → k ≡ refused r.number r.place
-unfolding check_of
+-- a result that is handed on
+pub refused-is : {T : Type 0} (v : Result T Refusal) (k : Check) {r : Refusal} → check_of v ≡ k → v ≡ Err r → k ≡ refused (number_of r.reason) r.place
 refused-is v k e g = sym e ∙ ap check_of g
 
-pub passed_is : (v : Verdict) (k : Check) → check_of v ≡ k → v ≡ Passed → k ≡ silent
-unfolding check_of
+pub passed_is : {T : Type 0} (v : Result T Refusal) (k : Check) {x : T} → check_of v ≡ k → v ≡ Ok x → k ≡ silent
 passed_is v k e g = sym e ∙ ap check_of g
 
 -- what is told after a check
@@ -150,3 +139,20 @@ refusal-after (refused number place) n p values e =
     let a : number ≡ n = cc in
     let b : place ≡ p = cc in
     ap₂ refused a b
+
+-- an answer that is told after a check: the check is silent, and the answer has its values
+pub told-answer : {T : Type 0} (values : T → List ℕ) (k : Check) (others : List ℕ) (v : Result T Refusal) {x : T}
+    → outcome_by values v ≡ after k (answered others) → v ≡ Ok x → (k ≡ silent) × (values x ≡ others)
+told-answer values k others v {x} e g = answered-after k (values x) others (sym (ap (outcome_by values) g) ∙ e)
+
+-- a refusal that is told after a check is that of the check
+pub told-refusal : {T : Type 0} (values : T → List ℕ) (k : Check) (others : List ℕ) (v : Result T Refusal) {r : Refusal}
+    → outcome_by values v ≡ after k (answered others) → v ≡ Err r → k ≡ refused (number_of r.reason) r.place
+told-refusal values k others v {r} e g = refusal-after k (number_of r.reason) r.place others (sym (ap (outcome_by values) g) ∙ e)
+
+-- a refusal that is told after a check stands, whatever is checked after it
+pub refusal_first : (k later : Check) (values others : List ℕ) {number place : ℕ} → refusal number place ≡ after k (answered values)
+    → refusal number place ≡ after (first k later) (answered others)
+unfolding first after
+refusal_first silent later values others e = absurd (let z : ◌≡◌ {A = ℕ} 0 1 = cc in omega arith)
+refusal_first (refused number place) later values others e = e

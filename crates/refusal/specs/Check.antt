@@ -1,7 +1,7 @@
 -- What a check says, and which of several checks decides: rules G13 and G14 of docs/RULES.md, where all rules are.
-use Rattle.std.specs.Prelude.{Bool, true, false, ℕ, zero, suc}
-use Rattle.refusal.specs.declared.Verdict.{Verdict}
-use Rattle.refusal.specs.declared.Verdict.TheVariants.{Passed, Refused}
+use Rattle.std.specs.Prelude.{Bool, true, false, ℕ, zero, suc, Result, Ok, Err}
+use Rattle.refusal.specs.declared.Refusal.{Refusal}
+use Rattle.refusal.specs.Number.{number_of}
 
 -- A check passes, or refuses with a number and a place (rule G13).
 pub data Check : Type 0 where
@@ -18,10 +18,10 @@ unfoldable pub first : Check → Check → Check
 first silent later = later
 first (refused number place) later = refused number place
 
--- What a verdict means: nothing where it passed, else its number and place.
-unfoldable pub check_of : Verdict → Check
-check_of Passed = silent
-check_of (Refused r) = refused r.number r.place
+-- What a result says as a check: nothing where it is answered, else the refusal's number and place.
+abbrev pub check_of : {T : Type 0} → Result T Refusal → Check
+check_of (Ok _) = silent
+check_of (Err r) = refused (number_of r.reason) r.place
 
 -- The first that refuses of n numbered checks, from number i on (rule G14).
 unfoldable pub first_from : (ℕ → Check) → ℕ → ℕ → Check

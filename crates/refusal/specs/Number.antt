@@ -1,5 +1,13 @@
--- The numbers of refusal, under the names that src/lib.rt has for them: rule N1.
+-- The numbers of refusal, under the names of the reasons of src/lib.rt: rule N1.
 use Rattle.std.specs.Prelude.{ℕ}
+use Rattle.refusal.specs.declared.Reason.{Reason}
+use Rattle.refusal.specs.declared.Reason.TheVariants.{IndexShort, FooterHash, EntryCount, IndexLength, IndexPageHash, IndexPadding, IndexOrder, LastKey}
+use Rattle.refusal.specs.declared.Reason.TheVariants.{IndexKeyLength, Settings, ListLength, OutputShort, NotBlte, EnvelopeHeader, ChunkSizes, ChunkHash}
+use Rattle.refusal.specs.declared.Reason.TheVariants.{ChunkMode, DecodedSize, ContentOutputShort, EnvelopeKey, NotEncoding, EncodingHeader, EncodingCut}
+use Rattle.refusal.specs.declared.Reason.TheVariants.{SpecTableOpen, EncodingPageHash, EntryOverPage, EncodingOrder, FirstKey, SpecNumber, EncodingKeyLength}
+use Rattle.refusal.specs.declared.Reason.TheVariants.{BlockCut, IdRange, RootHeaderSize, RootHeaderCut, RootVersion, HashLimit, KeyTextLength, HexDigit}
+use Rattle.refusal.specs.declared.Reason.TheVariants.{ListingInput, FooterVersion, FooterReserved, FooterPageSize, FooterOffsetWidth, FooterSizeWidth}
+use Rattle.refusal.specs.declared.Reason.TheVariants.{FooterKeyLength, FooterHashLength, PathLength, ListFalls}
 
 -- ---- archive index
 
@@ -212,3 +220,55 @@ path_length = 110
 -- list falls; place: number of the id
 abbrev pub list_falls : ℕ
 list_falls = 161
+
+-- ---- the number of each reason
+
+abbrev pub number_of : Reason → ℕ
+number_of IndexShort = index_short
+number_of FooterHash = footer_hash
+number_of EntryCount = entry_count
+number_of IndexLength = index_length
+number_of IndexPageHash = index_page_hash
+number_of IndexPadding = index_padding
+number_of IndexOrder = index_order
+number_of LastKey = last_key
+number_of IndexKeyLength = index_key_length
+number_of Settings = settings
+number_of ListLength = list_length
+number_of OutputShort = output_short
+number_of NotBlte = not_blte
+number_of EnvelopeHeader = envelope_header
+number_of ChunkSizes = chunk_sizes
+number_of ChunkHash = chunk_hash
+number_of ChunkMode = chunk_mode
+number_of DecodedSize = decoded_size
+number_of ContentOutputShort = content_output_short
+number_of EnvelopeKey = envelope_key
+number_of NotEncoding = not_encoding
+number_of EncodingHeader = encoding_header
+number_of EncodingCut = encoding_cut
+number_of SpecTableOpen = spec_table_open
+number_of EncodingPageHash = encoding_page_hash
+number_of EntryOverPage = entry_over_page
+number_of EncodingOrder = encoding_order
+number_of FirstKey = first_key
+number_of SpecNumber = spec_number
+number_of EncodingKeyLength = encoding_key_length
+number_of BlockCut = block_cut
+number_of IdRange = id_range
+number_of RootHeaderSize = root_header_size
+number_of RootHeaderCut = root_header_cut
+number_of RootVersion = root_version
+number_of HashLimit = hash_limit
+number_of KeyTextLength = key_text_length
+number_of HexDigit = hex_digit
+number_of ListingInput = listing_input
+number_of FooterVersion = footer_version
+number_of FooterReserved = footer_reserved
+number_of FooterPageSize = footer_page_size
+number_of FooterOffsetWidth = footer_offset_width
+number_of FooterSizeWidth = footer_size_width
+number_of FooterKeyLength = footer_key_length
+number_of FooterHashLength = footer_hash_length
+number_of PathLength = path_length
+number_of ListFalls = list_falls

@@ -3,23 +3,20 @@ use mathlib.Core.Path.{◌≡◌, sym, ap, ap₂, ◌∙◌}
 use mathlib.Core.Bool.{Bool, true, false, not, cond}
 use mathlib.Core.List.{List}
 use Prim.Native.Nat.{ℕ, zero, suc, ◌+◌, ◌-◌, ◌*◌, ◌≤◌, ◌<◌}
-use native.Mathlib.Nat.{le_refl, suc-mul, one-mul, mul-le-mul, mul-le-mul_right, not-suc-le-zero}
+use native.Mathlib.Nat.{le_refl, suc-mul, one-mul, mul-le-mul_right, not-suc-le-zero}
 use native.Mathlib.Omega.{arith}
 use lib.Dec.{ltb}
 use borrow.Author.Tests.{lt-ltb, le-ltb}
 use Rattle.parts.specs.Part.{byte_at, part_at}
 use Rattle.numbers.specs.Number.{big_at}
 use Rattle.key.specs.Order.{compared, is_below}
-use Rattle.key.specs.declared.Order.TheVariants.{Below}
+use Rattle.std.specs.declared.cmp.Ordering.TheVariants.{Less}
 use Rattle.key.proofs.Laws.{below-of-big_at, part_bytes, part-number}
 use Rattle.refusal.specs.Check.{Check, refused_if, first, first_from}
 use Rattle.refusal.proofs.Laws.{first_said, first-quiet}
 use Rattle.rising.specs.Fall.{rises_at, fall_from}
 
--- a key's offset fits, and is at least the stride from the second key on
-pub at-fits : (i stride : ℕ) → i ≤ 4294967295 → stride ≤ 65535 → i * stride ≤ 4294967295 * 65535
-at-fits i stride h k = mul-le-mul h k
-
+-- a key's offset is at least the stride from the second key on
 pub at_least : (i stride : ℕ) → 1 ≤ i → stride ≤ i * stride
 at_least i stride h = omega (arith, mul-le-mul_right stride h, one-mul stride)
 
@@ -79,7 +76,8 @@ module _ (keys : List ℕ) (stride width : ℕ) where
   fall-low i (suc n) = later (rises_at keys stride width i) i (fall_from keys stride width (suc i) n) (fall-low (suc i) n)
 
   -- what a comparison of two neighbours tells
-  pub told_at : (i : ℕ) (a b : List ℕ) (r : Bool) → r ≡ is_below (compared a b) → a ≡ part_at keys ((i - 1) * stride) width → b ≡ part_at keys (i * stride) width
+  pub told_at : (i : ℕ) (a b : List ℕ) (r : Bool) → r ≡ is_below (compared a b)
+      → a ≡ part_at keys ((i - 1) * stride) width → b ≡ part_at keys (i * stride) width
       → rises_at keys stride width i ≡ r
   unfolding rises_at
   told_at i a b r e f g = sym (e ∙ ap₂ (λ x y. is_below (compared x y)) f g)
@@ -100,7 +98,7 @@ module _ (keys : List ℕ) (stride width : ℕ) where
 -- ---- eight bytes of two keys decide
 
 eight-below : (s : List ℕ) (a b width : ℕ) → 8 ≤ width → ((i : ℕ) → byte_at s i < 256) → big_at s a 8 < big_at s b 8
-    → compared (part_at s a width) (part_at s b width) ≡ Below
+    → compared (part_at s a width) (part_at s b width) ≡ Less
 eight-below s a b width h bytes e =
     below-of-big_at 8 (part_at s a width) (part_at s b width) (part_bytes s b width bytes) (rw (part-number s a width 8 h, part-number s b width 8 h) e)
 

@@ -14,29 +14,21 @@ fn skip(keys: &[u8], stride: u16, width: u8, count: u32, from: u32) -> u32
     requires { (1 ≤ from) × (from < count) }
     ensures { Skipped keys.now stride width count from result }
 {
-    let step = stride as usize;
-    if width < 8 {
-        return from;
-    }
-    if step < 8 {
-        return from;
-    }
-    if keys.len() < count as usize * step {
+    let step = usize::from(stride);
+    if width < 8 || step < 8 || keys.len() < count as usize * step {
         return from;
     }
     let mut at = from as usize * step;
     let mut before = eight(keys, at - step);
-    let mut i = from;
-    while i < count {
+    for i in from..count {
         let here = eight(keys, at);
         if here <= before {
             return i;
         }
         before = here;
         at += step;
-        i += 1;
     }
-    i
+    count
 }
 
 // The number of the first of `count` keys that is not above the one before it; the count or more where all rise. Key i has
@@ -44,9 +36,10 @@ fn skip(keys: &[u8], stride: u16, width: u8, count: u32, from: u32) -> u32
 pub fn fall(keys: &[u8], stride: u16, width: u8, count: u32) -> u32
     ensures { result ≡ spec.fall_from keys.now stride width 1 (count - 1) }
 {
-    let step = stride as usize;
-    let bytes = width as usize;
+    let step = usize::from(stride);
+    let bytes = usize::from(width);
     let mut i = 1;
+    // A while loop: `skip` goes on by uneven steps.
     while i < count {
         i = skip(keys, stride, width, count, i);
         if count <= i {

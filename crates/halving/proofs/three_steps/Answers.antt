@@ -2,22 +2,8 @@
 use mathlib.Core.Path.{ap, ◌∙◌}
 use native.Mathlib.Omega.{arith}
 use Rattle.halving.specs.Range.{fronts_of}
-use Rattle.halving.proofs.Ranges.{next-holds, holds-fewer, three_made}
+use Rattle.halving.proofs.Ranges.{three_made}
 use Rattle.halving.proofs.three_steps.Goals as goal
-
-pub read_fronts-before-requires : goal.read_fronts-before-requires
-read_fronts-before-requires c = rw c.next.ensures (holds-fewer (next-holds 3 _ _ c.requires))
-
-pub read_fronts-after-requires : goal.read_fronts-after-requires
-read_fronts-after-requires c = rw c.next-2.ensures (holds-fewer (next-holds 3 _ _ c.requires))
-
-pub next-requires-3 : goal.next-requires-3
-next-requires-3 c =
-    rw c.next-one.ensures (holds-fewer (next-holds 3 _ _ c.requires))
-
-pub next-requires-4 : goal.next-requires-4
-next-requires-4 c =
-    rw (c.next-3.ensures, c.next-one.ensures) (next-holds 1 _ _ (next-holds 3 _ _ c.requires))
 
 pub returns : goal.returns
 returns c =

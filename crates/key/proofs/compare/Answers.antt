@@ -1,10 +1,8 @@
 -- `key::compare` meets its contract: the eights passed are the same; the first that differ decide, else the bytes that are left.
-use mathlib.Core.Path.{sym, ◌∙◌}
-use Prim.Native.Nat.{◌-◌, ◌≤◌}
+use mathlib.Core.Path.{sym, ap₂, ◌∙◌}
 use native.Mathlib.Omega.{arith}
-use lib.ListN.{length}
-use borrow.Author.Rules.{rules}
-use Rattle.key.proofs.Laws.{Passed, passed_none, below-eight, above-eight, passed-eight}
+use Rattle.key.proofs.Laws.{passed_none, told-eight, passed-eight}
+use Rattle.std.specs.Ordering.{nat_cmp}
 use Rattle.key.proofs.compare.Goals as goal
 
 pub loop-same-init : goal.loop-same-init
@@ -13,19 +11,12 @@ loop-same-init c = (omega arith, omega arith, passed_none _ _ _)
 pub returns-then-b-same-lt8 : goal.returns-then-b-same-lt8
 returns-then-b-same-lt8 c = c.compare_bytes.ensures ∙ sym c.loop-same.invariant.2.rest
 
-pub returns-then-x-y-2 : goal.returns-then-x-y-2
-returns-then-x-y-2 c =
+pub returns-then-x-y : goal.returns-then-x-y
+returns-then-x-y c =
     let x = c.eight_inside-x.ensures in
     let y = c.eight_inside-y.ensures in
-    sym (below-eight c.loop-same.invariant.2 (λ i. (c.shared_slice_known-1.given i).fits) (λ i. (c.shared_slice_known-2-1.given i).fits)
-    (rw (← x, ← y) c.if-x-y-2.true))
-
-pub returns-else-x-y-2 : goal.returns-else-x-y-2
-returns-else-x-y-2 c =
-    let x = c.eight_inside-x.ensures in
-    let y = c.eight_inside-y.ensures in
-    sym (above-eight c.loop-same.invariant.2 (λ i. (c.shared_slice_known-1.given i).fits) (λ i. (c.shared_slice_known-2-1.given i).fits)
-    (rw (← x, ← y) (omega arith)))
+    c.cmp.ensures ∙ ap₂ nat_cmp x y
+    ∙ told-eight c.loop-same.invariant.2 (λ i. (c.type_inv.a i).fits) (λ i. (c.type_inv.b i).fits) (λ e. c.if-x-y.true (x ∙ e ∙ sym y))
 
 pub loop-same-preserved : goal.loop-same-preserved
 loop-same-preserved c =
@@ -33,7 +24,7 @@ loop-same-preserved c =
     let y = c.eight_inside-y.ensures in (
       omega arith,
       omega arith,
-      passed-eight c.loop-same.invariant.2 (λ i. (c.shared_slice_known-1.given i).fits) (λ i. (c.shared_slice_known-2-1.given i).fits)
+      passed-eight c.loop-same.invariant.2 (λ i. (c.type_inv.a i).fits) (λ i. (c.type_inv.b i).fits)
           (omega arith) (omega arith) (sym x ∙ c.if-x-y.false ∙ y),
     )
 

@@ -1,10 +1,7 @@
 -- `key::compare` meets its contract: the eights passed are the same; the first that differ decide, else the bytes that are left.
-use mathlib.Core.Path.{sym, ◌∙◌}
 use Prim.Native.Nat.{◌-◌, ◌≤◌}
-use native.Mathlib.Omega.{arith}
 use lib.ListN.{length}
-use borrow.Author.Rules.{rules}
-use Rattle.key.proofs.Laws.{Passed, passed_none, below-eight, above-eight, passed-eight}
+use Rattle.key.proofs.Laws.{Passed}
 use Rattle.key.proofs.compare.Given as goal
 
 abbrev pub invariant-loop-same : goal.invariant-loop-same

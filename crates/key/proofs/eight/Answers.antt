@@ -1,7 +1,6 @@
 -- `key::eight` meets its contract: eight bytes are there, or fewer.
 use mathlib.Core.Path.{sym, ◌∙◌}
 use native.Mathlib.Omega.{arith}
-use borrow.Author.Rules.{rules}
 use Rattle.key.proofs.Laws.{eight-there, eight-short}
 use Rattle.key.proofs.eight.Goals as goal
 

@@ -1,12 +1,11 @@
 -- `key::same` meets its contract: the eights passed are the same; the first that differ tell, else the bytes that are left.
-use mathlib.Core.Path.{◌≡◌, sym, ap, ◌∙◌}
-use Prim.Native.Nat.{◌-◌, ◌≤◌}
+use mathlib.Core.Path.{sym, ap, ◌∙◌}
 use native.Mathlib.Omega.{arith}
 use lib.ListN.{length}
 use borrow.Author.Rules.{rules}
 use Rattle.parts.proofs.Laws.{same_bytes-not}
 use Rattle.key.specs.Order.{is_equal}
-use Rattle.key.proofs.Laws.{Passed, passed_none, passed-eight, differ-eight, equal-is-same}
+use Rattle.key.proofs.Laws.{passed_none, passed-eight, differ-eight, equal-is-same, is_eq-is}
 use Rattle.key.proofs.same.Goals as goal
 
 pub returns-then-a-b : goal.returns-then-a-b
@@ -19,7 +18,7 @@ pub returns-then-eight_inside : goal.returns-then-eight_inside
 returns-then-eight_inside c =
     let x = c.eight_inside.ensures in
     let y = c.eight_inside-in-loop-at.ensures in
-    sym (differ-eight c.loop-at.invariant.2 (λ i. (c.shared_slice_known-1.given i).fits) (λ i. (c.shared_slice_known-2-1.given i).fits)
+    sym (differ-eight c.loop-at.invariant.2 (λ i. (c.type_inv.a i).fits) (λ i. (c.type_inv.b i).fits)
     (λ e. c.if-eight_inside.true (x ∙ e ∙ sym y)))
 
 pub loop-at-preserved : goal.loop-at-preserved
@@ -28,18 +27,10 @@ loop-at-preserved c =
     let y = c.eight_inside-in-loop-at.ensures in (
       omega arith,
       c.loop-at.invariant.1,
-      passed-eight c.loop-at.invariant.2 (λ i. (c.shared_slice_known-1.given i).fits) (λ i. (c.shared_slice_known-2-1.given i).fits)
+      passed-eight c.loop-at.invariant.2 (λ i. (c.type_inv.a i).fits) (λ i. (c.type_inv.b i).fits)
           (omega arith) (omega (arith, c.loop-at.invariant.1)) (sym x ∙ c.if-eight_inside.false ∙ y),
     )
 
-pub returns-in-Below : goal.returns-in-Below
-returns-in-Below c =
-    ap is_equal (sym c.in-Below.is ∙ c.compare_bytes.ensures ∙ sym c.loop-at.invariant.2.rest) ∙ equal-is-same _ _
-
-pub returns-in-Equal : goal.returns-in-Equal
-returns-in-Equal c =
-    ap is_equal (sym c.in-Equal.is ∙ c.compare_bytes.ensures ∙ sym c.loop-at.invariant.2.rest) ∙ equal-is-same _ _
-
-pub returns-in-Above : goal.returns-in-Above
-returns-in-Above c =
-    ap is_equal (sym c.in-Above.is ∙ c.compare_bytes.ensures ∙ sym c.loop-at.invariant.2.rest) ∙ equal-is-same _ _
+pub returns : goal.returns
+returns c =
+    c.is_eq.ensures ∙ is_eq-is _ ∙ ap is_equal (c.compare_bytes.ensures ∙ sym c.loop-at.invariant.2.rest) ∙ equal-is-same _ _

@@ -1,12 +1,8 @@
 -- `key::same` meets its contract: the eights passed are the same; the first that differ tell, else the bytes that are left.
-use mathlib.Core.Path.{◌≡◌, sym, ap, ◌∙◌}
+use mathlib.Core.Path.{◌≡◌}
 use Prim.Native.Nat.{◌-◌, ◌≤◌}
-use native.Mathlib.Omega.{arith}
 use lib.ListN.{length}
-use borrow.Author.Rules.{rules}
-use Rattle.parts.proofs.Laws.{same_bytes-not}
-use Rattle.key.specs.Order.{is_equal}
-use Rattle.key.proofs.Laws.{Passed, passed_none, passed-eight, differ-eight, equal-is-same}
+use Rattle.key.proofs.Laws.{Passed}
 use Rattle.key.proofs.same.Given as goal
 
 abbrev pub invariant-loop-at : goal.invariant-loop-at

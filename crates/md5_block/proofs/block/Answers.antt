@@ -1,5 +1,4 @@
 -- `md5_block::block`: sixteen groups of four steps, and the sum.
-use Rattle.std.proofs.Common.{rules}
 use Rattle.md5_block.proofs.BlockLaws.{all-steps, block-is}
 use Rattle.md5_block.proofs.block.Goals as goal
 

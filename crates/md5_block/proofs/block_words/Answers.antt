@@ -1,5 +1,5 @@
 -- `md5_block::block_words`: fewer than 64 bytes are laid over zeros.
-use Rattle.std.proofs.Common.{◌∙◌, rules}
+use Rattle.std.proofs.Common.{◌∙◌}
 use Rattle.md5_block.proofs.BlockLaws.{words-padded}
 use Rattle.md5_block.proofs.block_words.Goals as goal
 

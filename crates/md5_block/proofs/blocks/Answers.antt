@@ -1,8 +1,8 @@
 -- `md5_block::blocks`: what is left to do after `at` bytes is the whole blocks of the rest.
-use Rattle.std.proofs.Common.{◌≡◌, ◌-◌, ◌/◌, ◌≤◌, length, drop, ap, ◌∙◌, rules}
+use Rattle.std.proofs.Common.{ap, ◌∙◌, rules}
 use native.Mathlib.Nat.{sub-zero}
 use Rattle.parts.proofs.Laws.{part_to_end}
-use Rattle.md5_block.specs.Block.{words_of, blocks}
+use Rattle.md5_block.specs.Block.{words_of}
 use Rattle.md5_block.proofs.BlockLaws.{one_block, no_block}
 use Rattle.md5_block.proofs.blocks.Goals as goal
 

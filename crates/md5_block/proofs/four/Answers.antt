@@ -1,5 +1,5 @@
 -- `md5_block::four`: four steps, one after the other, each with its shift amount.
-use Rattle.std.proofs.Common.{◌*◌, ◌%◌, get_or, ap, arith, rules}
+use Rattle.std.proofs.Common.{◌*◌, ◌%◌, get_or, ap, arith}
 use Rattle.md5_block.specs.Block.{shifts}
 use Rattle.md5_block.proofs.BlockLaws.{four_is, row-start, row_of}
 use Rattle.md5_block.proofs.four.Goals as goal

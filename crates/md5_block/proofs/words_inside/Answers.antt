@@ -1,5 +1,5 @@
 -- `md5_block::words_inside`: after i turns the first i words stand in the array.
-use Rattle.std.proofs.Common.{◌≡◌, ◌-◌, ◌<◌, ◌≤◌, length, take, refl, arith, length-set, rules}
+use Rattle.std.proofs.Common.{◌<◌, length, refl, arith, length-set, rules}
 use Rattle.md5_block.specs.Block.{words_of}
 use Rattle.md5_block.proofs.BlockLaws.{word-stored, words-all}
 use Rattle.md5_block.proofs.words_inside.Goals as goal

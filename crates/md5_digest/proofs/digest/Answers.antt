@@ -1,23 +1,8 @@
--- `md5_digest::digest`: the digest of the message, or refusal 50.
-use mathlib.Core.Path.{◌≡◌, sym, ap, ◌∙◌}
-use mathlib.Core.Bool.{true, false, not}
-use native.Mathlib.Nat.{zero-add}
-use lib.ListN.{length}
-use Rattle.refusal.specs.Check.{refused_if, check_of}
-use Rattle.md5_digest.specs.Message.{is_too_long}
-use Rattle.md5_digest.proofs.MessageLaws.{digest-told}
+-- `md5_digest::digest`: within the limit, from the words after the message.
+use mathlib.Core.Path.{ap, ◌∙◌}
+use Rattle.md5_digest.specs.Message.{digest_of, md5}
 use Rattle.md5_digest.proofs.digest.Goals as goal
 
-pub returns-then-not-within_limit : goal.returns-then-not-within_limit
-unfolding refused_if
-returns-then-not-within_limit c =
-    let n = length c.args.message.now in
-    let e : is_too_long n ≡ true = ap is_too_long (sym (zero-add n)) ∙ c.within_limit.ensures ∙ ap not c.if-not-within_limit.true in
-    record { verdict = c.refuse.ensures ∙ rw e; bytes = rw e }
-
-pub returns : goal.returns
-unfolding refused_if check_of
-returns c =
-    let m = c.args.message.now in
-    let e : is_too_long (length m) ≡ false = ap is_too_long (sym (zero-add (length m))) ∙ c.within_limit.ensures ∙ ap not c.if-not-within_limit.false in
-    record { verdict = rw e; bytes = digest-told (λ b. b) m _ _ e c.words_after.ensures c.bytes.ensures }
+pub returns-clause-bytes : goal.returns-clause-bytes
+unfolding md5
+returns-clause-bytes c = c.bytes.ensures ∙ ap digest_of c.words_after.ensures

@@ -7,7 +7,6 @@ use lib.ListN.{length}
 use Rattle.md5_block.specs.Block.{addends, whole}
 use Rattle.md5_end.specs.End.{padded, zeros, rest}
 use Rattle.md5_end.proofs.EndLaws.{rest-length, marked, end-one, end-two}
-use borrow.Author.Rules.{rules}
 use Rattle.md5_end.proofs.end.Lts as lts
 use Rattle.md5_end.proofs.end.Tie as tie
 use Rattle.md5_end.proofs.end.Goals as goal

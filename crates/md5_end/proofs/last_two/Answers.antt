@@ -1,7 +1,6 @@
 -- `md5_end::last_two`: a block, and the block of the length.
 use mathlib.Core.Path.{ap, ap₂, ◌∙◌}
 use Rattle.md5_block.specs.Block.{block}
-use borrow.Author.Rules.{rules}
 use Rattle.md5_end.proofs.last_two.Goals as goal
 
 pub returns : goal.returns

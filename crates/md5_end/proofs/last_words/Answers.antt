@@ -1,7 +1,6 @@
 -- `md5_end::last_words`: one byte, zeros and the length.
 use mathlib.Core.Path.{ap, ◌∙◌}
 use Rattle.md5_block.specs.Block.{words_of}
-use borrow.Author.Rules.{rules}
 use Rattle.md5_end.proofs.last_words.Goals as goal
 
 pub returns : goal.returns

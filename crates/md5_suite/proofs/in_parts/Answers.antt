@@ -17,10 +17,10 @@ pub loop-at-preserved : goal.loop-at-preserved
 loop-at-preserved c =
     let s = c.args.s.now in
     let l = c.loop-at in
-    let u = c.update-updated.ensures in
-    let end = l.at + c.least.result in
+    let u = c.update.ensures in
+    let end = l.at + c.min.result in
     let inside : end ≤ length s = omega arith in
-    (inside, part-more s _ _ l.at end (omega arith) inside c.requires.0 l.invariant.1 (record { said = u.verdict; after = u.state }))
+    (inside, part-more s _ _ _ l.at end (omega arith) inside c.requires.0 l.invariant.1 (record { said = u.check; after = u.state }))
 
 pub returns : goal.returns
 returns c =

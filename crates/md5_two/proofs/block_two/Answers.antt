@@ -1,5 +1,4 @@
 -- `md5_two::block_two`: sixteen groups of four steps of each message, and the sums.
-use borrow.Author.Rules.{rules}
 use Rattle.md5_two.proofs.TwoLaws.{block-two-is}
 use Rattle.md5_two.proofs.block_two.Goals as goal
 

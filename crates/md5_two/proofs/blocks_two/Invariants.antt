@@ -1,15 +1,8 @@
 -- `md5_two::blocks_two`: as `md5_block::blocks`, for each of the two messages.
-use mathlib.Core.Path.{◌≡◌, ap, ◌∙◌}
+use mathlib.Core.Path.{◌≡◌}
 use Prim.Native.Nat.{◌-◌, ◌/◌, ◌≤◌}
-use native.Mathlib.Nat.{sub-zero}
-use native.Mathlib.Omega.{arith}
 use lib.ListN.{length, drop}
-use Rattle.parts.proofs.Laws.{part_to_end}
-use Rattle.md5_block.specs.Block.{words_of, blocks}
-use Rattle.md5_block.proofs.BlockLaws.{one_block, no_block}
-use Rattle.md5_two.specs.Two.{block_two, whole_two}
-use Rattle.md5_two.proofs.TwoLaws.{paired}
-use borrow.Author.Rules.{rules}
+use Rattle.md5_block.specs.Block.{blocks}
 use Rattle.md5_two.proofs.blocks_two.Given as goal
 
 abbrev pub invariant-loop-at : goal.invariant-loop-at

@@ -7,7 +7,6 @@ use Rattle.md5_end.specs.End.{rest}
 use Rattle.md5_end.proofs.EndLaws.{last-part}
 use Rattle.md5_two.specs.Two.{whole_two}
 use Rattle.md5_two.proofs.TwoLaws.{end-itself}
-use borrow.Author.Rules.{rules}
 use Rattle.md5_two.proofs.ended.Goals as goal
 
 pub returns : goal.returns

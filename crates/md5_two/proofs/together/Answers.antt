@@ -6,7 +6,6 @@ use Rattle.md5_block.specs.Block.{whole}
 use Rattle.md5_digest.specs.Message.{padding}
 use Rattle.md5_two.specs.Two.{block_two, whole_two}
 use Rattle.md5_two.proofs.TwoLaws.{end_whole}
-use borrow.Author.Rules.{rules}
 use Rattle.md5_two.proofs.together.Goals as goal
 
 pub returns : goal.returns

@@ -2,12 +2,8 @@
 use Prim.Native.Nat.{min}
 use native.Mathlib.Nat.{zero-add}
 use native.Mathlib.Omega.{arith}
-use borrow.Author.Rules.{rules}
 use Rattle.numbers.proofs.Laws.{big_at-agree}
 use Rattle.numbers.proofs.big.Goals as goal
-
-pub returns-then-w-rest : goal.returns-then-w-rest
-returns-then-w-rest c = cc
 
 pub returns : goal.returns
 returns c =

@@ -1,6 +1,5 @@
 -- `numbers::padded` meets its contract: zeros with the part laid over them read as the part.
 use mathlib.Core.Path.{◌∙◌}
-use borrow.Author.Rules.{rules}
 use Rattle.parts.specs.Part.{part_at}
 use Rattle.parts.proofs.Laws.{overlay-zeros, part_at-byte}
 use Rattle.numbers.proofs.padded.Goals as goal

@@ -1,12 +1,10 @@
--- `numbers::within`: a number against its two bounds.
-use borrow.Author.Tests.{le-leb, lt-leb}
-use Rattle.numbers.specs.Number.{within}
+-- `numbers::within`: a range of both bounds.
+use Rattle.std.proofs.Common.{rules, ◌↔◌, ◌≤◌, IsTrue}
+use Rattle.numbers.proofs.Laws.{within-told}
 use Rattle.numbers.proofs.within.Goals as goal
 
-pub returns-then-low-x : goal.returns-then-low-x
-unfolding within
-returns-then-low-x c = rw (le-leb c.args.low c.args.x c.if-low-x.true)
-
-pub returns-else-low-x : goal.returns-else-low-x
-unfolding within
-returns-else-low-x c = rw (lt-leb c.args.low c.args.x c.if-low-x.false)
+pub returns : goal.returns
+returns c =
+    let a = c.args in
+    let told : IsTrue c.contains.result ↔ ((a.low ≤ a.x) × (a.x ≤ a.high)) = search rules in
+    within-told a.low a.high a.x c.contains.result told

@@ -1,9 +1,0 @@
--- `md5_block::wide`: a byte is below 256.
-use Rattle.std.proofs.Common.{refl, arith, rules}
-use Rattle.md5_block.proofs.wide.Goals as goal
-
-pub overflow_cast-result : goal.overflow_cast-result
-overflow_cast-result c = omega (arith, c.shared_slice_known-1.given c.args.at)
-
-pub returns : goal.returns
-returns c = (refl, omega (arith, c.shared_slice_known-1.given c.args.at))
