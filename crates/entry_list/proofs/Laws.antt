@@ -3,7 +3,6 @@ use mathlib.Core.Path.{◌≡◌}
 use mathlib.Core.Bool.{true, false}
 use mathlib.Core.List.{List, []}
 use Prim.Native.Nat.{ℕ, ◌+◌, ◌≤◌, ◌<◌, min}
-use lib.Dec.{ltb}
 use lib.ListN.{length}
 use borrow.Author.Tests.{ltb-true, lt-ltb, le-ltb}
 use Rattle.parts.proofs.Laws.{both}
@@ -15,42 +14,30 @@ use Rattle.entry_list.specs.Cursor.{cursor_at, stands, entry_here, place_here, n
 
 module _ (l : Layout) (c : Cursor) where
   pub stands_here : c.page.0 < l.pages → c.slot.0 < on_page l c.page.0 → stands l c ≡ true
-  unfolding stands
   stands_here h k = rw (lt-ltb _ _ h, lt-ltb _ _ k)
 
   pub stands-past : l.pages ≤ c.page.0 → stands l c ≡ false
-  unfolding stands
   stands-past h = rw (le-ltb _ _ h)
 
-  pub stands_by : (n : ℕ) → c.page.0 < l.pages → n ≡ on_page l c.page.0 → stands l c ≡ ltb c.slot.0 n
-  unfolding stands
-  stands_by n h e = rw (lt-ltb _ _ h, e)
-
   pub standing : stands l c ≡ true → (c.page.0 < l.pages) × (c.slot.0 < on_page l c.page.0)
-  unfolding stands
   standing t =
       let two = both _ _ t in
       (ltb-true _ _ two.0, ltb-true _ _ two.1)
 
   -- the place after this one
   pub next-none : stands l c ≡ false → next_place l c ≡ c
-  unfolding next_place
   next-none t = rw t
 
   pub next-slot : stands l c ≡ true → c.slot.0 + 1 < on_page l c.page.0 → next_place l c ≡ cursor_at c.page.0 (c.slot.0 + 1)
-  unfolding next_place
   next-slot t h = rw (t, lt-ltb _ _ h)
 
   pub next-page : stands l c ≡ true → on_page l c.page.0 ≤ c.slot.0 + 1 → next_place l c ≡ cursor_at (c.page.0 + 1) 0
-  unfolding next_place
   next-page t h = rw (t, le-ltb _ _ h)
 
   -- the entry here
   pub entry-none : (s : List ℕ) → stands l c ≡ false → (entry_here s l c ≡ []) × (place_here s l c ≡ 0)
-  unfolding entry_here place_here
   entry-none s t = (rw t, rw t)
 
   pub entry-stored : (s : List ℕ) → stands l c ≡ true
       → (entry_here s l c ≡ stored_entry s l c.page.0 c.slot.0) × (place_here s l c ≡ min (entry_at l c.page.0 c.slot.0) (length s))
-  unfolding entry_here place_here
   entry-stored s t = (rw t, rw t)

@@ -14,18 +14,18 @@ abbrev pub first_place : Cursor
 first_place = cursor_at 0 0
 
 -- Whether the index has this slot of this page (rule I7).
-unfoldable pub stands : Layout → Cursor → Bool
+abbrev pub stands : Layout → Cursor → Bool
 stands l c = ltb c.page.0 l.pages && ltb c.slot.0 (on_page l c.page.0)
 
 -- The bytes of the entry at a cursor, and where they stand; none, at the start of the file, where no entry stands there.
-unfoldable pub entry_here : List ℕ → Layout → Cursor → Entry
+abbrev pub entry_here : List ℕ → Layout → Cursor → Entry
 entry_here s l c = cond (stands l c) (stored_entry s l c.page.0 c.slot.0) []
 
-unfoldable pub place_here : List ℕ → Layout → Cursor → ℕ
+abbrev pub place_here : List ℕ → Layout → Cursor → ℕ
 place_here s l c = cond (stands l c) (min (entry_at l c.page.0 c.slot.0) (length s)) 0
 
 -- The next slot, or slot 0 of the next page after a page's last entry; the same place where no entry stands.
-unfoldable pub next_place : Layout → Cursor → Cursor
+abbrev pub next_place : Layout → Cursor → Cursor
 next_place l c =
     cond (stands l c)
     (cond (ltb (c.slot.0 + 1) (on_page l c.page.0)) (cursor_at c.page.0 (c.slot.0 + 1)) (cursor_at (c.page.0 + 1) 0))

@@ -8,7 +8,7 @@ use native.Mathlib.Omega.{arith}
 use lib.ListN.{length, take}
 use Rattle.parts.specs.Part.{parts_from}
 use Rattle.parts.proofs.Laws.{part_at-inside}
-use Rattle.key.specs.declared.Order.TheVariants.{Below}
+use Rattle.std.specs.declared.cmp.Ordering.TheVariants.{Less}
 use Rattle.key.specs.Order.{compared, is_below}
 use Rattle.refusal.specs.Check.{silent}
 use Rattle.refusal.proofs.Laws.{first-left, first-right}
@@ -72,7 +72,7 @@ module _ (s : List ℕ) (o : Opened s) where
     abbrev k : ℕ
     k = l.key_length
 
-    key_below : (p i q j : ℕ) → compared (key_at s l p i) (key_at s l q j) ≡ Below
+    key_below : (p i q j : ℕ) → compared (key_at s l p i) (key_at s l q j) ≡ Less
         → is_below (compared (take k (stored_entry s l p i)) (take k (stored_entry s l q j))) ≡ true
     key_below p i q j e = ap is_below (ap₂ compared (entry_key s l p i) (entry_key s l q j) ∙ e)
 

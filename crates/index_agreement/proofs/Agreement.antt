@@ -5,7 +5,7 @@ use mathlib.Core.Bool.{true, false, false≢true}
 use Prim.Native.Nat.{ℕ, ◌+◌, ◌-◌, ◌≤◌, ◌<◌}
 use native.Mathlib.Omega.{arith}
 use borrow.Author.Tests.{lt-ltb, le-ltb}
-use Rattle.key.specs.declared.Order.TheVariants.{Below, Equal, Above}
+use Rattle.std.specs.declared.cmp.Ordering.TheVariants.{Less, Equal, Greater}
 use Rattle.key.specs.Order.{is_below, is_equal}
 use Rattle.key.proofs.Laws.{below-not-equal, below-not-above, equal-not-above, is_below-true, is_equal-true}
 use Rattle.halving.specs.Halving.{binary_digits}
@@ -18,16 +18,16 @@ use Rattle.index_lookup.specs.Lookup.{Stored, Ended, slot_halved, ended_at, ende
 pub record Sorted (k : Stored) : Type 0 where
   pub some : (p : ℕ) → p < k.pages → 0 < k.entries p
   pub lasts : (p : ℕ) → p < k.pages → k.last p ≡ k.key p (k.entries p - 1)
-  pub inside : (p i j : ℕ) → p < k.pages → i < j → j < k.entries p → (k.key p j ≡ Above → ⊥) → k.key p i ≡ Below
-  pub across : (p q i j : ℕ) → p < q → q < k.pages → i < k.entries p → j < k.entries q → (k.key q j ≡ Above → ⊥) → k.key p i ≡ Below
+  pub inside : (p i j : ℕ) → p < k.pages → i < j → j < k.entries p → (k.key p j ≡ Greater → ⊥) → k.key p i ≡ Less
+  pub across : (p q i j : ℕ) → p < q → q < k.pages → i < k.entries p → j < k.entries q → (k.key q j ≡ Greater → ⊥) → k.key p i ≡ Less
 
 -- The first equal key stands in slot i of page p: every one before it is below.
 pub record FirstEqual (k : Stored) (p i : ℕ) : Type 0 where
   pub page : p < k.pages
   pub slot : i < k.entries p
   pub equal : k.key p i ≡ Equal
-  pub inside : (j : ℕ) → j < i → k.key p j ≡ Below
-  pub earlier : (q j : ℕ) → q < p → j < k.entries q → k.key q j ≡ Below
+  pub inside : (j : ℕ) → j < i → k.key p j ≡ Less
+  pub earlier : (q j : ℕ) → q < p → j < k.entries q → k.key q j ≡ Less
 
 -- No key is equal.
 pub record NoneEqual (k : Stored) : Type 0 where
@@ -40,16 +40,16 @@ pub record Settled (k : Stored) (e : Ended) : Type 0 where
 
 module _ (k : Stored) (sorted : Sorted k) where
   -- the keys of a page whose last key is below
-  all-below : (p i : ℕ) → p < k.pages → is_below (k.last p) ≡ true → i < k.entries p → k.key p i ≡ Below
+  all-below : (p i : ℕ) → p < k.pages → is_below (k.last p) ≡ true → i < k.entries p → k.key p i ≡ Less
   all-below p i h below l =
-      let last : k.key p (k.entries p - 1) ≡ Below = sym (sorted.lasts p h) ∙ is_below-true _ below in
+      let last : k.key p (k.entries p - 1) ≡ Less = sym (sorted.lasts p h) ∙ is_below-true _ below in
       by_order i (k.entries p - 1) (λ m. sorted.inside p i _ h m (omega arith) (below-not-above last))
       (λ m. let e : i ≡ k.entries p - 1 = omega arith in ap (k.key p) e ∙ last)
 
   pages-rise : Rising (λ p. is_below (k.last p)) k.pages
   pages-rise = record {
     earlier = λ p q l h below.
-        let here : k.key q (k.entries q - 1) ≡ Below = sym (sorted.lasts q h) ∙ is_below-true _ below in
+        let here : k.key q (k.entries q - 1) ≡ Less = sym (sorted.lasts q h) ∙ is_below-true _ below in
         let some-p = sorted.some p (omega arith) in
         let some-q = sorted.some q h in
         let before = sorted.across p q (k.entries p - 1) (k.entries q - 1) l h (omega arith) (omega arith) (below-not-above here) in
@@ -70,7 +70,7 @@ module _ (k : Stored) (sorted : Sorted k) where
 
   -- the page p whose last key is the first not below, and its slot i
   module _ (p : ℕ) (h : p < k.pages) (here : First (λ q. is_below (k.last q)) k.pages p) where
-    earlier-below : (q j : ℕ) → q < p → j < k.entries q → k.key q j ≡ Below
+    earlier-below : (q j : ℕ) → q < p → j < k.entries q → k.key q j ≡ Less
     earlier-below q j l m = all-below q j (omega arith) (here.before q l) m
 
     -- a page has a slot that is not below
@@ -89,7 +89,7 @@ module _ (k : Stored) (sorted : Sorted k) where
         earlier = earlier-below;
       }
 
-      not_after : k.key p i ≡ Below → ⊥
+      not_after : k.key p i ≡ Less → ⊥
       not_after e = true-or-false (ap is_below e) (slot.stops l)
 
       settled-other : is_equal (k.key p i) ≡ false → NoneEqual k

@@ -8,7 +8,7 @@ use native.Mathlib.Omega.{arith}
 use borrow.Author.Tests.{not-false}
 use Rattle.parts.specs.Part.{part_at}
 use Rattle.parts.proofs.Laws.{same_bytes-eq}
-use Rattle.key.specs.declared.Order.TheVariants.{Below}
+use Rattle.std.specs.declared.cmp.Ordering.TheVariants.{Less}
 use Rattle.key.specs.Order.{compared}
 use Rattle.key.proofs.Laws.{is_below-true, below-trans, below-then-not-above}
 use Rattle.refusal.specs.Check.{silent, first, first_from}
@@ -45,13 +45,13 @@ module _ (s : List ℕ) (l : Layout) (passed : pages_check s l ≡ silent) where
         let order = from_each (order_check s l p) 0 (on_page l p) (first-left _ (last_key_check s l p) rest-silent) i m in
         silent-test _ index_order _ (rw zero-add at order)
 
-    pub next-below : (i : ℕ) → suc i < on_page l p → compared (key_at s l p i) (key_at s l p (suc i)) ≡ Below
+    pub next-below : (i : ℕ) → suc i < on_page l p → compared (key_at s l p i) (key_at s l p (suc i)) ≡ Less
     next-below i m =
         let one : i ≡ suc i - 1 = omega arith in
         is_below-true _
         (not-false _ (sym (not-above-next s l p (suc i) _ _ _ (omega arith) refl (ap (key_at s l p) one) refl) ∙ above (suc i) m))
 
-  pub over_below : (p : ℕ) → suc p < l.pages → 0 < on_page l (suc p) → compared (key_at s l p (on_page l p - 1)) (key_at s l (suc p) 0) ≡ Below
+  pub over_below : (p : ℕ) → suc p < l.pages → 0 < on_page l (suc p) → compared (key_at s l p (on_page l p - 1)) (key_at s l (suc p) 0) ≡ Less
   over_below p h some =
       let one : p ≡ suc p - 1 = omega arith in
       is_below-true _
@@ -60,7 +60,7 @@ module _ (s : List ℕ) (l : Layout) (passed : pages_check s l ≡ silent) where
 
   -- ---- inside a page
 
-  inside : (p i j : ℕ) → p < l.pages → i < j → j < on_page l p → compared (key_at s l p i) (key_at s l p j) ≡ Below
+  inside : (p i j : ℕ) → p < l.pages → i < j → j < on_page l p → compared (key_at s l p i) (key_at s l p j) ≡ Less
   inside p i zero h m n = absurd (omega arith)
   inside p i (suc j) h m n =
       let next = next-below p h j n in
@@ -68,12 +68,12 @@ module _ (s : List ℕ) (l : Layout) (passed : pages_check s l ≡ silent) where
       (λ o. let same : i ≡ j = omega arith in rw same next)
 
   -- below a key, so below every later one; and above
-  up_to : (p i j : ℕ) (a : List ℕ) → p < l.pages → i ≤ j → j < on_page l p → compared a (key_at s l p i) ≡ Below → compared a (key_at s l p j) ≡ Below
+  up_to : (p i j : ℕ) (a : List ℕ) → p < l.pages → i ≤ j → j < on_page l p → compared a (key_at s l p i) ≡ Less → compared a (key_at s l p j) ≡ Less
   up_to p i j a h m n below =
       by_order i j (λ o. below-trans _ _ _ below (inside p i j h o n))
       (λ o. let same : i ≡ j = omega arith in rw same at below)
 
-  from_on : (p i j : ℕ) (a : List ℕ) → p < l.pages → i ≤ j → j < on_page l p → compared (key_at s l p j) a ≡ Below → compared (key_at s l p i) a ≡ Below
+  from_on : (p i j : ℕ) (a : List ℕ) → p < l.pages → i ≤ j → j < on_page l p → compared (key_at s l p j) a ≡ Less → compared (key_at s l p i) a ≡ Less
   from_on p i j a h m n below =
       by_order i j (λ o. below-trans _ _ _ (inside p i j h o n) below)
       (λ o. let same : i ≡ j = omega arith in rw same below)
@@ -81,7 +81,7 @@ module _ (s : List ℕ) (l : Layout) (passed : pages_check s l ≡ silent) where
   -- ---- from page to page
 
   module _ (some : (p : ℕ) → p < l.pages → 0 < on_page l p) where
-    over : (p q : ℕ) → p < q → q < l.pages → compared (key_at s l p (on_page l p - 1)) (key_at s l q 0) ≡ Below
+    over : (p q : ℕ) → p < q → q < l.pages → compared (key_at s l p (on_page l p - 1)) (key_at s l q 0) ≡ Less
     over p zero m h = absurd (omega arith)
     over p (suc q) m h =
         let next = over_below q h (some (suc q) h) in
@@ -90,7 +90,7 @@ module _ (s : List ℕ) (l : Layout) (passed : pages_check s l ≡ silent) where
         (λ o. below-trans _ _ _ (up_to q 0 (on_page l q - 1) _ (omega arith) (omega arith) (omega arith) (over p q o (omega arith))) next)
         (λ o. let same : p ≡ q = omega arith in rw same next)
 
-    across : (p q i j : ℕ) → p < q → q < l.pages → i < on_page l p → j < on_page l q → compared (key_at s l p i) (key_at s l q j) ≡ Below
+    across : (p q i j : ℕ) → p < q → q < l.pages → i < on_page l p → j < on_page l q → compared (key_at s l p i) (key_at s l q j) ≡ Less
     across p q i j m h hi hj =
         up_to q 0 j _ h (omega arith) hj
         (from_on p i (on_page l p - 1) _ (omega arith) (omega arith) (omega arith) (over p q m h))

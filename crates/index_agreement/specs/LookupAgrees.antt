@@ -1,16 +1,14 @@
 -- Demand 3: on any index that passes the full check and any key of its length, the lookup refuses nothing, finds exactly what
 -- the plain reading finds, with the same page, slot, size and location, and tells the number of keys compared, which is that of
 -- the halving rule and at most the bound: rules L11 and P3.
-use Rattle.std.specs.Prelude.{◌≡◌, List, [], ◌∷◌, ℕ, ◌≤◌, length}
+use Rattle.std.specs.Prelude.{◌≡◌, List, [], ◌∷◌, ℕ, ◌≤◌, length, Result, Ok}
+use Rattle.refusal.specs.declared.Refusal.{Refusal}
 use Rattle.refusal.specs.Outcome.{Outcome, answered}
 use Rattle.index_layout.specs.declared.Layout.{Layout}
 use Rattle.index_layout.specs.Layout.{layout_of}
-use Rattle.index_open.specs.declared.Checked.{Checked}
-use Rattle.index_open.specs.declared.Checked.TheVariants.{Passed}
 use Rattle.index_open.specs.Open as checks
 use Rattle.index.specs.Check.{check_outcome}
 use Rattle.index_lookup.specs.declared.Answer.{Answer}
-use Rattle.index_lookup.specs.declared.Bounded.{Bounded}
 use Rattle.index_lookup.specs.Lookup.{stored_in, ended, lookup_of, most_of, bound_of, outcome, bound_outcome}
 use Rattle.index_agreement.specs.Plain.{plain_reading, with_count}
 
@@ -30,15 +28,15 @@ pub record Agrees (s sought : List ℕ) (looked : Outcome) : Type 0 where
 -- key has the index's length.
 pub record Calls (s sought : List ℕ) : Type 0 where
   -- `index::check` answered `checked`, `index_lookup::lookup` answered `looked` and `index_lookup::bound` answered `most`.
-  pub checked : Checked
-  pub looked : Answer
-  pub most : Bounded
+  pub checked : Result Layout Refusal
+  pub looked : Result Answer Refusal
+  pub most : Result ℕ Refusal
   pub check_ensures : checks.outcome checked ≡ check_outcome s
   pub lookup_ensures : outcome looked ≡ lookup_of s sought
   pub bound_ensures : bound_outcome most ≡ bound_of s
   -- The premises.
   pub layout : Layout
-  pub passed : checked ≡ Passed layout
+  pub passed : checked ≡ Ok layout
   pub key_length : length sought ≡ layout.key_length
 
 -- The demand of these calls: the lookup's answer agrees, and the bound's answer is that bound (rule L11).

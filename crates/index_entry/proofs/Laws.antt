@@ -11,13 +11,12 @@ use Rattle.refusal.proofs.Laws.{after-quiet}
 use Rattle.index_layout.specs.declared.Layout.{Layout}
 use Rattle.index_layout.specs.Layout.{on_page, layout_of}
 use Rattle.index_open.specs.Open.{opening}
-use Rattle.index_entry.specs.Entry.{values_at, entry_in, entry_outcome}
+use Rattle.index_entry.specs.Entry.{values_at, entry_outcome}
 
 -- the page against the number of pages, the slot against the page's entries
 module _ (s : List ℕ) (l : Layout) (p i : ℕ) (quiet : opening s ≡ silent) (e : l ≡ layout_of s) where
   answer-by : (inside : Bool) → (ltb p (layout_of s).pages && ltb i (on_page (layout_of s) p)) ≡ inside
       → cond inside (answered (values_at s (layout_of s) p i)) (absent []) ≡ entry_outcome s p i
-  unfolding entry_in
   answer-by inside test = sym (after-quiet _ quiet ∙ ap (λ b. cond b (answered (values_at s (layout_of s) p i)) (absent [])) test)
 
   pub past-pages : l.pages ≤ p → absent [] ≡ entry_outcome s p i

@@ -19,7 +19,8 @@ entry-of-page s l p i = ap (take (entry_size l)) (sym (drop-drop (i * entry_size
 
 page-is : (s : List ℕ) (l : Layout) (p : ℕ) → parts_from (λ i. stored_entry s l p i) 0 (on_page l p) ≡ entries_of s l p
 page-is s l p =
-    parts_same (λ i. stored_entry s l p i) (λ i. part_at (drop (page_offset p) s) (i * entry_size l) (entry_size l)) 0 (on_page l p) (λ i a b. entry-of-page s l p i)
+    parts_same (λ i. stored_entry s l p i) (λ i. part_at (drop (page_offset p) s) (i * entry_size l) (entry_size l)) 0 (on_page l p)
+    (λ i a b. entry-of-page s l p i)
     ∙ parts-of (drop (page_offset p) s) (entry_size l) 0 (on_page l p)
     ∙ ap (λ at. part_at (drop (page_offset p) s) at (on_page l p * entry_size l)) (zero-mul (entry_size l))
 

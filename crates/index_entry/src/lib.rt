@@ -5,7 +5,6 @@ ghost use Rattle.std.specs.Prelude.{◌≡◌, ◌≤◌};
 ghost use Rattle.index_entry.specs.Entry as spec;
 
 use index_layout::{Layout, Page, Slot, archive, offset};
-use index_open::Checked;
 use refusal::Refusal;
 
 // The offset width with which a location has an archive number.
@@ -21,14 +20,6 @@ pub struct Entry {
     pub offset: u64,
     pub page: Page,
     pub slot: Slot,
-}
-
-// What is answered for a page and a slot.
-#[derive(Clone, Copy)]
-pub enum Answer {
-    Found(Entry),
-    Absent,
-    Refused(Refusal),
 }
 
 // The archive number of a location; 0 where it has none.
@@ -47,7 +38,7 @@ fn offset_in(width: u8, location: u64) -> u64
     ensures { result ≡ spec.offset_in width location }
 {
     if width == ARCHIVE_WIDTH {
-        offset(location) as u64
+        u64::from(offset(location))
     } else {
         location
     }
@@ -72,21 +63,17 @@ fn found(index: &[u8], l: Layout, page: Page, slot: Slot) -> Entry
     }
 }
 
-// The entry in a slot of a page. The opening checks; no page is checked.
-pub fn find(index: &[u8], page: u64, slot: u64) -> Answer
+// The entry in a slot of a page, if the index has one there. The opening checks; no page is checked.
+pub fn find(index: &[u8], page: u64, slot: u64) -> Result<Option<Entry>, Refusal>
     ensures { spec.outcome result ≡ spec.entry_outcome index.now page slot }
 {
-    match index_open::open(index) {
-        Checked::Refused(r) => Answer::Refused(r),
-        Checked::Passed(l) => {
-            if l.pages as u64 <= page {
-                return Answer::Absent;
-            }
-            let p = Page(page as u32);
-            if l.on_page(p) as u64 <= slot {
-                return Answer::Absent;
-            }
-            Answer::Found(found(index, l, p, Slot(slot as u32)))
-        }
+    let l = index_open::open(index)?;
+    if u64::from(l.pages) <= page {
+        return Ok(None);
     }
+    let p = Page(page as u32);
+    if l.on_page(p) as u64 <= slot {
+        return Ok(None);
+    }
+    Ok(Some(found(index, l, p, Slot(slot as u32))))
 }

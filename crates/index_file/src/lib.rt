@@ -36,8 +36,7 @@ pub fn write_pages(list: &[u8], l: Layout, output: &mut [u8])
     let zeros = [0u8; PAGE_SIZE];
     let count = l.pages;
     let mut to = 0;
-    let mut p = 0;
-    while p < count {
+    for p in 0..count {
         let bytes = entries_size(l, Page(p));
         let entries = part(list, list_at(l, Page(p), Slot(0)), bytes);
         copy(entries, output, to);
@@ -45,7 +44,6 @@ pub fn write_pages(list: &[u8], l: Layout, output: &mut [u8])
         let rest = PAGE_SIZE - bytes;
         copy(part(&zeros, 0, rest), output, to);
         to += rest;
-        p += 1;
     }
 }
 
@@ -62,11 +60,13 @@ fn last_key(output: &[u8], l: Layout, page: Page) -> Key
     ensures count_value_2 { result.count ≡ length (spec.last_key_of output.now l page.0) }
 {
     let slot = l.last_placed(page);
-    let key = part(output, l.entry_at(page, slot), l.key_length as usize);
+    let key = part(output, l.entry_at(page, slot), usize::from(l.key_length));
     let mut bytes = [0u8; LONGEST_KEY];
     copy(key, &mut bytes, 0);
-    let count = key.len();
-    Key { bytes, count }
+    Key {
+        bytes,
+        count: key.len(),
+    }
 }
 
 // The last key of each page that the output begins with, after the pages.
@@ -75,18 +75,14 @@ pub fn write_last_keys(l: Layout, output: &mut [u8])
 {
     let pages = l.pages;
     let mut to = l.last_key_at(Page(0));
-    let mut p = 0;
-    while p < pages {
+    for p in 0..pages {
         let key = last_key(output, l, Page(p));
-        let bytes = key.bytes;
-        let count = key.count;
-        copy(part(&bytes, 0, count), output, to);
-        to += count;
-        p += 1;
+        copy(part(&key.bytes, 0, key.count), output, to);
+        to += key.count;
     }
 }
 
-// The hash of each page that the output begins with, after the last keys.
+// The hash of each page that the output begins with, after the last keys: two in each turn of the loop, hashed together.
 pub fn write_page_hashes(l: Layout, output: &mut [u8])
     ensures { output.new ≡ overlay output.old (layout.page_hash_at l 0) (spec.hashes_of output.old l) }
 {
@@ -95,14 +91,12 @@ pub fn write_page_hashes(l: Layout, output: &mut [u8])
     let mut to = l.page_hash_at(Page(0));
     let mut p = 0;
     while p < pages {
-        let hashes = page_hashes(output, Page(p));
-        let hash = hashes.first;
+        let (hash, next_hash) = page_hashes(output, Page(p));
         copy(&hash, output, to);
         let next = p + 1;
         if pages <= next {
             return;
         }
-        let next_hash = hashes.second;
         copy(&next_hash, output, to + size);
         to += 2 * size;
         p += 2;

@@ -10,28 +10,22 @@ ghost use Rattle.index_footer.specs.Footer as spec;
 use index_layout::{
     FOOTER_HASH_AT, FOOTER_SIZE, HASH_LENGTH, Layout, PAGE_KB, Page, SIZE_WIDTH, VERSION_AT,
 };
+use md5_digest::first_eight;
 use parts::{copy, part};
 
 // The footer's fields, and zeros in place of the footer hash.
 fn unhashed_fields(l: Layout) -> [u8; FOOTER_SIZE - VERSION_AT]
     ensures { result ≡ spec.fields l ++ replicate layout.hash_length 0 }
 {
-    let version = l.version;
-    let offset = l.offset_width;
-    let key = l.key_length;
-    let n = l.entries;
-    let a = (n % 256) as u8;
-    let b = (n / 256 % 256) as u8;
-    let c = (n / 256 / 256 % 256) as u8;
-    let d = (n / 256 / 256 / 256 % 256) as u8;
+    let [a, b, c, d] = l.entries.to_le_bytes();
     [
-        version,
+        l.version,
         0,
         0,
         PAGE_KB,
-        offset,
+        l.offset_width,
         SIZE_WIDTH,
-        key,
+        l.key_length,
         HASH_LENGTH,
         a,
         b,
@@ -55,8 +49,7 @@ fn write_contents_hash(l: Layout, output: &mut [u8])
 {
     let from = l.last_key_at(Page(0));
     let at = l.page_hash_at(Page(l.pages));
-    let contents = md5_digest::first_eight(part(output, from, at - from));
-    let hash = contents.bytes;
+    let hash = first_eight(part(output, from, at - from)).unwrap();
     copy(&hash, output, at);
 }
 
@@ -66,8 +59,7 @@ fn write_fields(l: Layout, output: &mut [u8])
 {
     let at = l.page_hash_at(Page(l.pages));
     let mut fields = unhashed_fields(l);
-    let footer = md5_digest::first_eight(&fields);
-    let hash = footer.bytes;
+    let hash = first_eight(&fields).unwrap();
     copy(&hash, &mut fields, FOOTER_HASH_AT - VERSION_AT);
     copy(&fields, output, at + VERSION_AT);
 }

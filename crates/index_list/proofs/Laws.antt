@@ -4,16 +4,14 @@ use mathlib.Core.List.{List}
 use Prim.Native.Nat.{ℕ, ◌*◌}
 use lib.ListN.{length}
 use Rattle.index_layout.specs.declared.Layout.{Layout}
-use Rattle.index_open.specs.declared.Checked.{Checked}
-use Rattle.index_open.specs.declared.Checked.TheVariants.{Passed}
 use Rattle.refusal.specs.Check.{silent}
 use Rattle.refusal.specs.Outcome.{answered, after}
-use Rattle.refusal.proofs.Laws.{first-left}
+use Rattle.refusal.proofs.Laws.{first-left, answered-after}
 use Rattle.index_layout.specs.Layout.{entry_size, layout_of}
-use Rattle.index_open.specs.Open.{opening, layout_values, outcome}
+use Rattle.index_open.specs.Open.{opening, layout_values}
 use Rattle.index.specs.Check.{pages_check, full_check}
 use Rattle.index_layout.specs.Entries.{entries_by, list_of}
-use Rattle.index_open.proofs.Laws.{passed-index}
+use Rattle.index_open.proofs.Laws.{values_one}
 use Rattle.index_open.proofs.Opened.{opened, list_length}
 
 -- what a passed check says of the list
@@ -22,14 +20,15 @@ pub record Listable (s : List ℕ) (l : Layout) (size : ℕ) : Type 0 where
   pub bytes : l.entries * size ≡ length (list_of s)
   pub list : entries_by s l ≡ list_of s
 
-pub passed-list : (s : List ℕ) (l : Layout) (v : Checked) (size : ℕ) → outcome v ≡ after (full_check s) (answered (layout_values (layout_of s))) → v ≡ Passed l
+pub passed-list : (s : List ℕ) (l : Layout) (size : ℕ) → answered (layout_values l) ≡ after (full_check s) (answered (layout_values (layout_of s)))
     → size ≡ entry_size l → Listable s l size
 unfolding full_check
-passed-list s l v size e g z =
-    let i = passed-index (full_check s) l (layout_of s) v e g in
+passed-list s l size e z =
+    let i = answered-after (full_check s) _ _ e in
+    let one = values_one l (layout_of s) i.1 in
     let o = opened s (first-left (opening s) (pages_check s (layout_of s)) i.0) in
     record {
       quiet = i.0;
-      bytes = ap (λ n. l.entries * n) z ∙ ap (λ m. m.entries * entry_size m) i.1 ∙ sym (list_length s o);
-      list = ap (entries_by s) i.1;
+      bytes = ap (λ n. l.entries * n) z ∙ ap (λ m. m.entries * entry_size m) one ∙ sym (list_length s o);
+      list = ap (entries_by s) one;
     }

@@ -1,4 +1,4 @@
-#![tactic(auto)]
+#![tactic(auto, unfolding(refusal::specs::Check::first, refusal::specs::Check::refused_if, refusal::specs::Outcome::after, crate::specs::List::list_check))]
 
 // The list of an index: its entries' bytes, in order, with nothing between.
 ghost use Rattle.std.specs.Prelude.{◌≡◌, ◌≤◌, length};
@@ -9,9 +9,8 @@ ghost use Rattle.index_layout.specs.Entries as entries;
 ghost use Rattle.index_list.specs.List as spec;
 
 use index_layout::{Layout, Page, page_at};
-use index_open::Checked;
 use parts::{copy, part};
-use refusal::{OUTPUT_SHORT, Refusal, Written};
+use refusal::{Reason, Refusal};
 
 // Copies the entries of each page, one page after the other.
 fn fill(index: &[u8], l: Layout, output: &mut [u8])
@@ -21,34 +20,25 @@ fn fill(index: &[u8], l: Layout, output: &mut [u8])
     let size = l.entry_size();
     let pages = l.pages;
     let mut to = 0;
-    let mut p = 0;
-    while p < pages {
+    for p in 0..pages {
         let bytes = l.on_page(Page(p)) * size;
         let page = part(index, page_at(Page(p)), bytes);
         copy(page, output, to);
         to += page.len();
-        p += 1;
     }
 }
 
 // Writes the list of a checked index into the output.
-pub fn list(index: &[u8], output: &mut [u8]) -> Written
+pub fn list(index: &[u8], output: &mut [u8]) -> Result<usize, Refusal>
     ensures result_value { written_outcome result ≡ spec.list_outcome index.now (length output.old) }
     ensures output_after { output.new
         ≡ filled (spec.list_check index.now (length output.old)) (entries.list_of index.now) output.old }
 {
-    match index::check(index) {
-        Checked::Refused(r) => Written::Refused(r),
-        Checked::Passed(l) => {
-            let bytes = l.entries as usize * l.entry_size();
-            if output.len() < bytes {
-                return Written::Refused(Refusal {
-                    number: OUTPUT_SHORT,
-                    place: 0,
-                });
-            }
-            fill(index, l, output);
-            Written::Bytes(bytes)
-        }
+    let l = index::check(index)?;
+    let bytes = l.entries as usize * l.entry_size();
+    if output.len() < bytes {
+        return Err(Reason::OutputShort.at(0));
     }
+    fill(index, l, output);
+    Ok(bytes)
 }

@@ -1,28 +1,36 @@
 -- Laws of one entry of a list.
 use mathlib.Core.Path.{◌≡◌, refl, sym, ap, ap₂, ◌∙◌}
-use mathlib.Core.Bool.{true, false, not, cond}
-use mathlib.Core.List.{List, ◌++◌}
-use Prim.Native.Nat.{ℕ, zero, suc, ◌+◌, ◌-◌, ◌^◌, ◌≤◌, ◌<◌}
-use native.Mathlib.Nat.{zero-add, suc-add, le_of_eq}
+use mathlib.Core.Bool.{cond}
+use mathlib.Core.List.{List, ◌∷◌, ◌++◌}
+use Rattle.std.specs.Int.{bytes_high_first}
+use Prim.Native.Nat.{ℕ, zero, suc, ◌+◌, ◌-◌, ◌/◌, ◌%◌, ◌^◌, ◌≤◌, ◌<◌}
+use native.Mathlib.Nat.{zero-add, suc-add, le_of_eq, div-one}
 use native.Mathlib.Omega.{arith}
 use lib.Dec.{leb, ltb, eqb}
 use lib.ListN.{length, take, drop, length-append}
 use lib.Seq.{take_all}
-use borrow.Author.Tests.{lt-ltb, le-ltb, ltb-true, ltb-false, leb-true, eq-eqb, ne_eqb, eqb-true, eqb-false, not-false}
+use borrow.Author.Tests.{ltb-true, ltb-false, leb-true, eqb-true, eqb-false, not-false}
 use Rattle.parts.specs.Part.{part_at, overlay}
 use Rattle.parts.proofs.Laws.{by-test, both, overlay-after, overlay-inside}
-use Rattle.refusal.specs.Check.{Check, silent, refused, first}
+use Rattle.refusal.specs.Check.{silent}
 use Rattle.refusal.specs.Number.{settings, index_key_length, output_short}
 use Rattle.refusal.specs.Output.{filled, room_check}
-use Rattle.refusal.proofs.Laws.{said, quiet, first_said, skip, silent-test, first-left, first-right}
+use Rattle.refusal.proofs.Laws.{silent-test, first-left, first-right}
 use Rattle.index_layout.specs.Layout.{entry_size, least_offset_width, most_offset_width, most_key_length, size_width}
 use Rattle.index_entry.specs.Entry.{archive_width}
 use Rattle.index_writer.specs.declared.Settings.{Settings}
-use Rattle.index_writer.specs.Write.{list_entry_size, settings_right, settings_check}
+use Rattle.index_writer.specs.Write.{list_entry_size, settings_check}
 use Rattle.index_writer.proofs.Passed.{right}
 use Rattle.index_list_entry.specs.Put.{big_bytes, most_archive, offset_bytes, location_right, location_check, key_check, put_check, entry_bytes}
 
 -- ---- the bytes of a number
+
+-- the library's bytes of a number
+pub big-bytes : (w n : ℕ) → bytes_high_first w n ≡ big_bytes w n
+unfolding big_bytes
+big-bytes zero n = refl
+big-bytes (suc zero) n = rw (div-one n)
+big-bytes (suc (suc w)) n = ap (λ r. n / 256 ^ suc w % 256 ∷ r) (big-bytes (suc w) n)
 
 pub big-length : (w n : ℕ) → length (big_bytes w n) ≡ w
 unfolding big_bytes
@@ -43,15 +51,14 @@ big-part w n h =
 -- ---- the bytes of an entry, laid over the output one after the other
 
 pub entry-laid : (key out o1 o2 o3 a b : List ℕ) (w size location : ℕ) → w ≤ 8 → length key + 4 + w ≤ length out → o1 ≡ overlay out 0 key
-    → a ≡ part_at (big_bytes 8 size) 4 4 → o2 ≡ overlay o1 (length key) a → b ≡ part_at (big_bytes 8 location) (8 - w) w → o3 ≡ overlay o2 (length key + 4) b
+    → a ≡ big_bytes 4 size → o2 ≡ overlay o1 (length key) a → b ≡ part_at (big_bytes 8 location) (8 - w) w → o3 ≡ overlay o2 (length key + 4) b
     → o3 ≡ filled silent (entry_bytes w key size location) out
 unfolding filled entry_bytes
 entry-laid key out o1 o2 o3 a b w size location narrow room e1 ea e2 eb e3 =
     let sizes : List ℕ = big_bytes 4 size in
     let locations : List ℕ = big_bytes w location in
-    let one : a ≡ sizes = ea ∙ big-part 4 size (omega arith) in
     let two : o2 ≡ overlay out 0 (key ++ sizes) =
-    e2 ∙ ap₂ (λ o n. overlay o n a) e1 (sym (zero-add (length key))) ∙ overlay-after out 0 key a ∙ ap (λ r. overlay out 0 (key ++ r)) one in
+    e2 ∙ ap₂ (λ o n. overlay o n a) e1 (sym (zero-add (length key))) ∙ overlay-after out 0 key a ∙ ap (λ r. overlay out 0 (key ++ r)) ea in
     let at : length key + 4 ≡ 0 + length (key ++ sizes) = omega (arith, length-append key sizes, big-length 4 size) in
     let three : o3 ≡ overlay out 0 (key ++ sizes ++ locations) =
     e3 ∙ ap₂ (λ o n. overlay o n b) two at ∙ overlay-after out 0 (key ++ sizes) b
@@ -63,24 +70,15 @@ entry-laid key out o1 o2 o3 a b w size location narrow room e1 ea e2 eb e3 =
 
 -- ---- what W bytes hold
 
-pub archive-six : (w : ℕ) → w ≡ archive_width → 65535 ≡ most_archive w
-unfolding most_archive
-archive-six w e = sym (ap (λ b. cond b 65535 0) (eq-eqb w archive_width e))
-
-pub archive-none : (w : ℕ) → (w ≡ archive_width → ⊥) → 0 ≡ most_archive w
-unfolding most_archive
-archive-none w e = sym (ap (λ b. cond b 65535 0) (ne_eqb w archive_width e))
-
 archive-most : (w : ℕ) → most_archive w ≤ 65535
-archive-most w =
-    by-test (eqb w archive_width) (λ t. omega (arith, archive-six w (eqb-true w archive_width t)))
-    (λ t. omega (arith, archive-none w (eqb-false w archive_width t)))
+unfolding most_archive
+archive-most w = by-test (eqb w archive_width) (λ t. rw t (omega arith)) (λ t. rw t (omega arith))
 
-pub limit-five : (w : ℕ) → w ≡ 5 → 1099511627776 ≡ 256 ^ offset_bytes w
+limit-five : (w : ℕ) → w ≡ 5 → 1099511627776 ≡ 256 ^ offset_bytes w
 unfolding offset_bytes
 limit-five w e = sym (ap (λ n. 256 ^ offset_bytes n) e)
 
-pub limit-four : (w : ℕ) → least_offset_width ≤ w → w ≤ most_offset_width → (w ≡ 5 → ⊥) → 4294967296 ≡ 256 ^ offset_bytes w
+limit-four : (w : ℕ) → least_offset_width ≤ w → w ≤ most_offset_width → (w ≡ 5 → ⊥) → 4294967296 ≡ 256 ^ offset_bytes w
 unfolding offset_bytes
 limit-four w low high other =
     by-test (eqb w archive_width) (λ t. sym (ap (λ b. 256 ^ cond b 4 w) t))
@@ -91,35 +89,6 @@ limit-four w low high other =
 limit-most : (w : ℕ) → least_offset_width ≤ w → w ≤ most_offset_width → 256 ^ offset_bytes w ≤ 1099511627776
 limit-most w low high =
     by-test (eqb w 5) (λ t. omega (arith, limit-five w (eqb-true w 5 t))) (λ t. omega (arith, limit-four w low high (eqb-false w 5 t)))
-
--- ---- the refusals, in their order
-
-module _ (s : Settings) (key : List ℕ) (archive offset room : ℕ) where
-  pub put-settings : settings_right s ≡ false → put_check s key archive offset room ≡ refused settings 0
-  unfolding put_check
-  put-settings e = first_said _ (said refl (ap not e))
-
-  module _ (right : settings_right s ≡ true) where
-    pub put-location : location_right s.offset_width archive offset ≡ false → put_check s key archive offset room ≡ refused settings 0
-    unfolding put_check
-    put-location e = skip (quiet settings 0 refl (ap not right)) (first_said _ (said refl (ap not e)))
-
-    module _ (placed : location_right s.offset_width archive offset ≡ true) where
-      two : (later : Check) {r : Check} → later ≡ r → first (settings_check s) (first (location_check s.offset_width archive offset) later) ≡ r
-      two later e = skip (quiet settings 0 refl (ap not right)) (skip (quiet settings 0 refl (ap not placed)) e)
-
-      pub put-key : (length key ≡ s.key_length → ⊥) → put_check s key archive offset room ≡ refused index_key_length 0
-      unfolding put_check
-      put-key h = two _ (first_said _ (said refl (ap not (ne_eqb _ _ h))))
-
-      module _ (size : length key ≡ s.key_length) where
-        pub put-room : room < list_entry_size s → put_check s key archive offset room ≡ refused output_short 0
-        unfolding put_check
-        put-room h = two _ (skip (quiet index_key_length 0 refl (ap not (eq-eqb _ _ size))) (said refl (lt-ltb room (list_entry_size s) h)))
-
-        pub put-none : list_entry_size s ≤ room → put_check s key archive offset room ≡ silent
-        unfolding put_check
-        put-none h = two _ (skip (quiet index_key_length 0 refl (ap not (eq-eqb _ _ size))) (quiet output_short 0 refl (le-ltb room (list_entry_size s) h)))
 
 -- ---- what is known where none is given
 

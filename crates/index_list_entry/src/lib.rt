@@ -1,4 +1,4 @@
-#![tactic(auto)]
+#![tactic(auto, unfolding(refusal::specs::Check::first, refusal::specs::Check::refused_if, refusal::specs::Outcome::after))]
 
 // One entry of the list that an index is written from.
 ghost use Rattle.std.specs.Prelude.{◌≡◌, ◌+◌, ◌^◌, ◌≤◌, length};
@@ -12,7 +12,7 @@ use index_entry::ARCHIVE_WIDTH;
 use index_layout::SIZE_WIDTH;
 use index_writer::{Settings, settings_right};
 use parts::{copy, part};
-use refusal::{INDEX_KEY_LENGTH, OUTPUT_SHORT, SETTINGS, Verdict, Written, refuse};
+use refusal::{Reason, Refusal};
 
 // The highest archive number, which has two bytes.
 const MOST_ARCHIVE: u32 = 65_535;
@@ -25,22 +25,8 @@ const FIVE_BYTES: u64 = 1_099_511_627_776;
 // The bytes of a `u64`.
 const NUMBER_BYTES: usize = 8;
 
-// The eight bytes of a number, highest first.
-fn big_bytes(n: u64) -> [u8; NUMBER_BYTES]
-    ensures { result ≡ spec.big_bytes 8 n }
-{
-    let a = (n / 72_057_594_037_927_936 % 256) as u8;
-    let b = (n / 281_474_976_710_656 % 256) as u8;
-    let c = (n / 1_099_511_627_776 % 256) as u8;
-    let d = (n / 4_294_967_296 % 256) as u8;
-    let e = (n / 16_777_216 % 256) as u8;
-    let f = (n / 65_536 % 256) as u8;
-    let g = (n / 256 % 256) as u8;
-    let h = (n % 256) as u8;
-    [a, b, c, d, e, f, g, h]
-}
-
 // The highest archive number with an offset width.
+#[tactic(auto, unfolding(crate::specs::Put::most_archive))]
 fn most_archive(width: u8) -> u32
     ensures { result ≡ spec.most_archive width }
 {
@@ -52,6 +38,7 @@ fn most_archive(width: u8) -> u32
 }
 
 // How many offsets there are with an offset width.
+#[tactic(auto, unfolding(crate::specs::Put::offset_bytes))]
 fn offset_limit(width: u8) -> u64
     requires { (least_offset_width ≤ width) × (width ≤ most_offset_width) }
     ensures { result ≡ 256 ^ spec.offset_bytes width }
@@ -60,6 +47,7 @@ fn offset_limit(width: u8) -> u64
 }
 
 // Whether archive number and offset can be written with an offset width.
+#[tactic(auto, unfolding(crate::specs::Put::location_right))]
 fn location_right(width: u8, archive: u32, offset: u64) -> bool
     requires { (least_offset_width ≤ width) × (width ≤ most_offset_width) }
     ensures { result ≡ spec.location_right width archive offset }
@@ -68,24 +56,30 @@ fn location_right(width: u8, archive: u32, offset: u64) -> bool
 }
 
 // Refusals 11, 10 and 13.
-fn judge(settings: Settings, key: &[u8], archive: u32, offset: u64, room: usize) -> Verdict
+fn judge(
+    settings: Settings,
+    key: &[u8],
+    archive: u32,
+    offset: u64,
+    room: usize,
+) -> Result<(), Refusal>
     ensures { check_of result ≡ spec.put_check settings key.now archive offset room }
 {
     if !settings_right(settings) {
-        return refuse(SETTINGS, 0);
+        return Err(Reason::Settings.at(0));
     }
     let width = settings.offset_width;
     if !location_right(width, archive, offset) {
-        return refuse(SETTINGS, 0);
+        return Err(Reason::Settings.at(0));
     }
     let length = settings.key_length as usize;
     if key.len() != length {
-        return refuse(INDEX_KEY_LENGTH, 0);
+        return Err(Reason::IndexKeyLength.at(0));
     }
     if room < length + SIZE_WIDTH as usize + width as usize {
-        return refuse(OUTPUT_SHORT, 0);
+        return Err(Reason::OutputShort.at(0));
     }
-    Verdict::Passed
+    Ok(())
 }
 
 // Key, encoded size and location at the start of the output.
@@ -93,14 +87,16 @@ fn fill(width: u8, key: &[u8], size: u32, location: u64, output: &mut [u8])
     requires { (width ≤ most_offset_width) × (length key.now ≤ most_key_length) × (length key.now + size_width + width ≤ length output.old) }
     ensures { output.new ≡ filled silent (spec.entry_bytes width key.now size location) output.old }
 {
-    let sizes = big_bytes(size as u64);
-    let locations = big_bytes(location);
     let at = key.len();
     let s = SIZE_WIDTH as usize;
     let w = width as usize;
     copy(key, output, 0);
-    copy(part(&sizes, NUMBER_BYTES - s, s), output, at);
-    copy(part(&locations, NUMBER_BYTES - w, w), output, at + s);
+    copy(&size.to_be_bytes(), output, at);
+    copy(
+        part(&location.to_be_bytes(), NUMBER_BYTES - w, w),
+        output,
+        at + s,
+    );
 }
 
 // Puts one entry of a list at the start of the output.
@@ -111,17 +107,15 @@ pub fn put_entry(
     archive: u32,
     offset: u64,
     output: &mut [u8],
-) -> Written
+) -> Result<usize, Refusal>
     ensures result_value { written_outcome result ≡ spec.put_outcome settings key.now archive offset (length output.old) }
     ensures output_after { output.new
         ≡ filled (spec.put_check settings key.now archive offset (length output.old))
         (spec.entry_bytes settings.offset_width key.now size (spec.location_of archive offset)) output.old }
 {
-    if let Verdict::Refused(r) = judge(settings, key, archive, offset, output.len()) {
-        return Written::Refused(r);
-    }
+    judge(settings, key, archive, offset, output.len())?;
     let width = settings.offset_width;
-    let location = archive as u64 * FOUR_BYTES + offset;
+    let location = u64::from(archive) * FOUR_BYTES + offset;
     fill(width, key, size, location, output);
-    Written::Bytes(key.len() + SIZE_WIDTH as usize + width as usize)
+    Ok(key.len() + SIZE_WIDTH as usize + width as usize)
 }

@@ -15,7 +15,7 @@ use Rattle.key.proofs.Laws.{equal-is-same}
 use Rattle.refusal.specs.Check.{silent, refused}
 use Rattle.refusal.specs.Number.{index_key_length}
 use Rattle.refusal.proofs.Laws.{first_said, said, quiet, skip, after-said, after-quiet}
-use Rattle.refusal.specs.Outcome.{answered, refusal}
+use Rattle.refusal.specs.Outcome.{Outcome, answered, absent, refusal}
 use Rattle.halving.specs.declared.Halved.{Halved}
 use Rattle.halving.specs.Halving.{halve, is_key_below, binary_digits}
 use Rattle.halving.proofs.Laws.{halve-agree}
@@ -24,10 +24,8 @@ use Rattle.index_layout.specs.Layout.{entry_size, full, on_page, entry_at, last_
 use Rattle.index_layout.specs.Entries.{size_at, location_at}
 use Rattle.index_open.specs.Open.{opening}
 use Rattle.index_open.proofs.Opened.{opened}
-use Rattle.index_lookup.specs.declared.Answer.{Answer}
-use Rattle.index_lookup.specs.declared.Answer.TheVariants.{Absent}
 use Rattle.index_lookup.specs.Lookup.{stored_in, slot_halved, ended_at, ended_on, page_halved, ended_from}
-use Rattle.index_lookup.specs.Lookup.{ended, end_outcome, key_check, lookup_of, most_of, bound_of, outcome}
+use Rattle.index_lookup.specs.Lookup.{ended, end_outcome, key_check, lookup_of, most_of, bound_of}
 
 -- ---- the keys that are halved over
 
@@ -65,8 +63,8 @@ module _ (s sought : List ℕ) (l : Layout) where
   -- on a page, after some comparisons
   module _ (p count : ℕ) (h : Halved) (n : ℕ) (e : h ≡ slot_halved (stored_in s l sought) p) (g : n ≡ on_page l p) where
     pub no_slot : n ≤ h.place
-        → outcome (Absent (count + h.count)) ≡ end_outcome s l (ended_on (stored_in s l sought) p count)
-    unfolding outcome end_outcome ended_on ended_at stored_in
+        → absent (0 ∷ 0 ∷ 0 ∷ 0 ∷ (count + h.count) ∷ []) ≡ end_outcome s l (ended_on (stored_in s l sought) p count)
+    unfolding end_outcome ended_on ended_at stored_in
     no_slot none = rw (← e, le-ltb h.place (on_page l p) (rw g at none))
 
     module _ (a : List ℕ) (at : ℕ) (t : Bool) (some : h.place < n) (f : at ≡ entry_at l p h.place)
@@ -75,27 +73,27 @@ module _ (s sought : List ℕ) (l : Layout) where
       same-there = equal-is-same _ sought ∙ sym (rw (k, f) at z)
 
       pub other_key : not t ≡ true
-          → outcome (Absent (count + h.count + 1)) ≡ end_outcome s l (ended_on (stored_in s l sought) p count)
-      unfolding outcome end_outcome ended_on ended_at stored_in
+          → absent (0 ∷ 0 ∷ 0 ∷ 0 ∷ (count + h.count + 1) ∷ []) ≡ end_outcome s l (ended_on (stored_in s l sought) p count)
+      unfolding end_outcome ended_on ended_at stored_in
       other_key x = rw (← e, lt-ltb h.place (on_page l p) (rw g at some), same-there, not-true t x)
 
-      pub same_key : (r : Answer) → not t ≡ false
-          → outcome r ≡ answered (p ∷ h.place ∷ size_at s l p h.place ∷ location_at s l p h.place ∷ (count + h.count + 1) ∷ [])
-          → outcome r ≡ end_outcome s l (ended_on (stored_in s l sought) p count)
+      pub same_key : not t ≡ false
+          → answered (p ∷ h.place ∷ size_at s l p h.place ∷ location_at s l p h.place ∷ (count + h.count + 1) ∷ [])
+          ≡ end_outcome s l (ended_on (stored_in s l sought) p count)
       unfolding end_outcome ended_on ended_at stored_in
-      same_key r x same = same ∙ rw (← e, lt-ltb h.place (on_page l p) (rw g at some), same-there, not-false t x)
+      same_key x = rw (← e, lt-ltb h.place (on_page l p) (rw g at some), same-there, not-false t x)
 
   -- on the last keys
   module _ (h : Halved) (e : h ≡ page_halved (stored_in s l sought)) where
-    pub no-page : l.pages ≤ h.place → outcome (Absent h.count) ≡ end_outcome s l (ended (stored_in s l sought))
-    unfolding outcome end_outcome ended ended_from stored_in
+    pub no-page : l.pages ≤ h.place → absent (0 ∷ 0 ∷ 0 ∷ 0 ∷ h.count ∷ []) ≡ end_outcome s l (ended (stored_in s l sought))
+    unfolding end_outcome ended ended_from stored_in
     no-page none = rw (← e, le-ltb h.place l.pages none)
 
-    pub on-page : (r : Answer) → h.place < l.pages
-        → outcome r ≡ end_outcome s l (ended_on (stored_in s l sought) h.place h.count)
-        → outcome r ≡ end_outcome s l (ended (stored_in s l sought))
+    pub on-page : (o : Outcome) → h.place < l.pages
+        → o ≡ end_outcome s l (ended_on (stored_in s l sought) h.place h.count)
+        → o ≡ end_outcome s l (ended (stored_in s l sought))
     unfolding ended ended_from stored_in
-    on-page r some same = same ∙ rw (← e, lt-ltb h.place l.pages some)
+    on-page o some same = same ∙ rw (← e, lt-ltb h.place l.pages some)
 
 -- ---- what the checks say
 
@@ -123,14 +121,10 @@ module _ (s sought : List ℕ) where
         let wrong : not (eqb (length sought) (layout_of s).key_length) ≡ true = ap not (ne_eqb (length sought) (layout_of s).key_length (rw g at h)) in
         sym (after-said _ (skip e (said refl wrong)))
 
-    pub looked-up : (r : Answer) → length sought ≡ l.key_length → outcome r ≡ end_outcome s l (ended (stored_in s l sought)) → outcome r ≡ lookup_of s sought
-    looked-up r h same = (rw g at same) ∙ sym (opened-lookup e (rw g at h))
+    pub looked-up : (o : Outcome) → length sought ≡ l.key_length → o ≡ end_outcome s l (ended (stored_in s l sought)) → o ≡ lookup_of s sought
+    looked-up o h same = (rw g at same) ∙ sym (opened-lookup e (rw g at h))
 
 module _ (s : List ℕ) where
-  pub not-bounded : {number place : ℕ} → opening s ≡ refused number place → refusal number place ≡ bound_of s
-  unfolding bound_of
-  not-bounded e = sym (after-said _ e)
-
   pub bounded-by : (l : Layout) (a f b : ℕ) → opening s ≡ silent → l ≡ layout_of s → a ≡ binary_digits l.pages → f ≡ full l → b ≡ binary_digits f
       → answered ((a + b + 1) ∷ []) ≡ bound_of s
   unfolding bound_of most_of

@@ -1,30 +1,30 @@
 -- The lookup of a key in an archive index: rules L3 to L7 and L10.
-use Rattle.std.specs.Prelude.{Bool, false, not, cond, List, [], ◌∷◌, ℕ, ◌+◌, ltb, eqb, length}
+use Rattle.std.specs.Prelude.{Bool, false, not, cond, List, [], ◌∷◌, ◌++◌, ℕ, ◌+◌, ltb, eqb, length, Option, Some, None, Result, Ok, Err}
 use Rattle.parts.specs.Part.{part_at}
-use Rattle.key.specs.declared.Order.{Order}
+use Rattle.std.specs.declared.cmp.Ordering.{Ordering}
 use Rattle.key.specs.Order.{compared, is_below, is_equal}
 use Rattle.refusal.specs.Check.{Check, refused_if, first}
-use Rattle.refusal.specs.Number.{index_key_length}
-use Rattle.refusal.specs.Outcome.{Outcome, answered, absent, refusal, after}
+use Rattle.refusal.specs.Number.{index_key_length, number_of}
+use Rattle.refusal.specs.Outcome.{Outcome, answered, absent, refusal, after, outcome_by}
+use Rattle.refusal.specs.declared.Refusal.{Refusal}
 use Rattle.halving.specs.declared.Halved.{Halved}
 use Rattle.halving.specs.Halving.{halve, binary_digits}
 use Rattle.index_layout.specs.declared.Layout.{Layout}
+use Rattle.index_layout.specs.declared.Page.{Page}
+use Rattle.index_layout.specs.declared.Slot.{Slot}
 use Rattle.index_layout.specs.Layout.{full, on_page, last_key_offset, layout_of, key_at}
 use Rattle.index_layout.specs.Entries.{size_at, location_at}
 use Rattle.index_open.specs.Open.{opening}
+use Rattle.index_lookup.specs.declared.Entry.{Entry}
 use Rattle.index_lookup.specs.declared.Answer.{Answer}
-use Rattle.index_lookup.specs.declared.Answer.TheVariants.{Found, Absent, Refused}
-use Rattle.index_lookup.specs.declared.PageEnd.{PageEnd}
-use Rattle.index_lookup.specs.declared.SlotEnd.{SlotEnd}
-use Rattle.index_lookup.specs.declared.Bounded as bounded
-use Rattle.index_lookup.specs.declared.Bounded.{Bounded}
+use Rattle.index_lookup.specs.declared.End.{End}
 
 -- How the stored keys of an index stand to a sought one: the last key of each page, and the key of each entry on a page.
 pub record Stored : Type 0 where
   pub pages : ℕ
   pub entries : ℕ → ℕ
-  pub last : ℕ → Order
-  pub key : ℕ → ℕ → Order
+  pub last : ℕ → Ordering
+  pub key : ℕ → ℕ → Ordering
 
 unfoldable pub stored_in : List ℕ → Layout → List ℕ → Stored
 stored_in s l sought = record {
@@ -42,11 +42,11 @@ pub record Ended : Type 0 where
   pub found : Bool
 
 -- The page or the slot where a halving ended, as the declared answers of the code have them (rule L7).
-abbrev pub page_end : PageEnd → Halved
-page_end r = record { place = r.page.0; count = r.compared }
+abbrev pub page_end : End Page → Halved
+page_end r = record { place = r.place.0; count = r.compared }
 
-abbrev pub slot_end : SlotEnd → Halved
-slot_end r = record { place = r.slot.0; count = r.compared }
+abbrev pub slot_end : End Slot → Halved
+slot_end r = record { place = r.place.0; count = r.compared }
 
 -- The halving rule on a page's entries: no slot means absent; else one more comparison tells found or absent (rule L4).
 unfoldable pub slot_halved : Stored → ℕ → Halved
@@ -96,12 +96,20 @@ most_of l = binary_digits l.pages + binary_digits (full l) + 1
 unfoldable pub bound_of : List ℕ → Outcome
 bound_of s = after (opening s) (answered (most_of (layout_of s) ∷ []))
 
--- What the declared answers tell.
-unfoldable pub outcome : Answer → Outcome
-outcome (Found e) = answered (e.page.0 ∷ e.slot.0 ∷ e.size ∷ e.location ∷ e.compared ∷ [])
-outcome (Absent count) = absent (0 ∷ 0 ∷ 0 ∷ 0 ∷ count ∷ [])
-outcome (Refused r) = refusal r.number r.place
+-- What the declared answers tell: of a found entry its values, and of each lookup the comparisons.
+abbrev pub values : Entry → List ℕ
+values e = e.page.0 ∷ e.slot.0 ∷ e.size ∷ e.location ∷ []
 
-unfoldable pub bound_outcome : Bounded → Outcome
-bound_outcome (bounded.TheVariants.Comparisons n) = answered (n ∷ [])
-bound_outcome (bounded.TheVariants.Refused r) = refusal r.number r.place
+abbrev pub told_with : ℕ → Option Entry → Outcome
+told_with count (Some e) = answered (values e ++ count ∷ [])
+told_with count None = absent (0 ∷ 0 ∷ 0 ∷ 0 ∷ count ∷ [])
+
+abbrev pub told : Answer → Outcome
+told r = told_with r.compared r.found
+
+abbrev pub outcome : Result Answer Refusal → Outcome
+outcome (Ok r) = told r
+outcome (Err r) = refusal (number_of r.reason) r.place
+
+abbrev pub bound_outcome : Result ℕ Refusal → Outcome
+bound_outcome = outcome_by (λ n. n ∷ [])

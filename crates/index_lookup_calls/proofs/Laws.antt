@@ -1,9 +1,11 @@
 -- What a lookup after the full check tells.
-use mathlib.Core.Path.{◌≡◌, refl, sym, ap, ◌∙◌}
+use mathlib.Core.Path.{◌≡◌, refl, sym, ◌∙◌}
 use mathlib.Core.List.{List, [], ◌∷◌}
 use Prim.Native.Nat.{ℕ, ◌≤◌}
 use lib.ListN.{length}
 use borrow.Author.Tests.{eqb-true, not-false}
+use Rattle.std.specs.Prelude.{Result, Ok, Err, IfOk}
+use Rattle.refusal.specs.declared.Refusal.{Refusal}
 use Rattle.refusal.specs.Check.{Check, silent, refused}
 use Rattle.refusal.specs.Number.{index_key_length}
 use Rattle.refusal.specs.Outcome.{refusal}
@@ -12,8 +14,6 @@ use Rattle.index_layout.specs.Layout.{layout_of, full}
 use Rattle.index_layout.proofs.Laws.{on-page-full}
 use Rattle.index_open.specs.Open.{opening}
 use Rattle.index.specs.Check.{full_check}
-use Rattle.index_lookup.specs.declared.Bounded.{Bounded}
-use Rattle.index_lookup.specs.declared.Bounded.TheVariants.{Comparisons}
 use Rattle.index_lookup.specs.Lookup.{stored_in, key_check, lookup_of, most_of, bound_of, bound_outcome}
 use Rattle.index_agreement.specs.LookupAgrees.{comparisons}
 use Rattle.index_agreement.proofs.Agreement.{ended-count}
@@ -55,9 +55,10 @@ module _ (s sought : List ℕ) where
     bound-refused = sym (after-said _ e)
 
   -- no more keys are compared than the bound that is told
-  pub bound-told : (most : Bounded) (n : ℕ) → bound_outcome most ≡ checked_bound s → most ≡ Comparisons n → comparisons s sought ≤ n
-  unfolding checked_bound bound_outcome most_of stored_in
-  bound-told most n told e =
-      let known = answered-after (full_check s) (n ∷ []) (most_of (layout_of s) ∷ []) (sym (ap bound_outcome e) ∙ told) in
+  pub bound-told : (most : Result ℕ Refusal) → bound_outcome most ≡ checked_bound s → IfOk most (λ n. comparisons s sought ≤ n)
+  unfolding checked_bound most_of stored_in
+  bound-told (Ok n) told =
+      let known = answered-after (full_check s) (n ∷ []) (most_of (layout_of s) ∷ []) told in
       let same : n ≡ most_of (layout_of s) = cc known.1 in
       rw same (ended-count (stored_in s (layout_of s) sought) (full (layout_of s)) (on-page-full (layout_of s)))
+  bound-told (Err r) told = tt

@@ -1,6 +1,6 @@
 -- Laws of the opening checks.
 use mathlib.Core.Path.{◌≡◌, refl, sym, ap, ap₂, ◌∙◌}
-use mathlib.Core.Bool.{Bool, true, false, not, cond}
+use mathlib.Core.Bool.{Bool, true, false, not}
 use mathlib.Core.List.{List, [], ◌∷◌, ◌++◌}
 use Prim.Native.Nat.{ℕ, zero, suc, ◌+◌, ◌-◌, ◌^◌, ◌≤◌, ◌<◌}
 use native.Mathlib.Numerals.{add-one}
@@ -13,35 +13,26 @@ use Rattle.md5_block.specs.declared.Words.{Words}
 use Rattle.md5_block.specs.Block.{addends, word, words_of, block, whole}
 use Rattle.md5_block.proofs.BlockLaws.{whole-one}
 use Rattle.md5_end.specs.End.{little_bytes, padding, initial, digest_of}
-use Rattle.md5_digest.specs.Message.{md5, digest_or0}
+use Rattle.md5_digest.specs.Message.{md5, limited}
 use Rattle.parts.specs.Part.{byte_at, part_at, same_bytes}
 use Rattle.parts.proofs.Laws.{part_at-inside}
 use Rattle.refusal.specs.declared.Refusal.{Refusal}
-use Rattle.refusal.specs.Check.{Check, silent, refused, refused_if, first}
+use Rattle.refusal.specs.Check.{Check, silent, refused, refused_if, first, check_of}
 use Rattle.refusal.specs.Outcome.{answered, after}
-use Rattle.refusal.specs.Number.{entry_count, index_length}
-use Rattle.refusal.proofs.Laws.{silent-test, said, quiet, skip, first-right, first-assoc, answered-after, refusal-after}
+use Rattle.refusal.specs.Number.{entry_count, index_length, hash_limit}
+use Rattle.refusal.proofs.Laws.{silent-test, said, quiet, skip, first-right, told-answer, told-refusal, never}
 use Rattle.index_layout.specs.declared.Layout.{Layout}
-use Rattle.index_open.specs.declared.Checked.{Checked}
-use Rattle.index_open.specs.declared.Checked.TheVariants.{Passed, Refused}
-use Rattle.index_layout.specs.Layout.{page_size, footer_size, version_at, offset_width_at, entry_count_at, footer_hash_at, hash_length, most_entries}
+use Rattle.std.specs.Prelude.{Result, Ok, Err, IsOk}
+use Rattle.refusal.specs.Number.{number_of}
+use Rattle.index_layout.specs.Layout.{footer_size, version_at, offset_width_at, entry_count_at, footer_hash_at, hash_length, most_entries}
 use Rattle.index_layout.specs.Layout.{entry_count_of, count_check, index_length_of, layout_of}
-use Rattle.index_open.specs.Open.{fields_check, hashed_footer, footer_hash_check, footer_check, footer_reading, opening, layout_values, outcome, passes}
+use Rattle.index_open.specs.Open.{fields_check, hashed_footer, footer_hash_check, footer_check, footer_reading, opening, layout_values, outcome}
 use borrow.Author.Tests.{le-ltb, ltb-false}
 
--- eight checks, each after those before it
-pub chain : (a b c d e f g h : Check) {v1 v2 v3 v4 v5 v6 v7 v8 : Check} → v1 ≡ first silent a → v2 ≡ first v1 b
-    → v3 ≡ first v2 c → v4 ≡ first v3 d → v5 ≡ first v4 e
-    → v6 ≡ first v5 f → v7 ≡ first v6 g → v8 ≡ first v7 h → v8 ≡ first a (first b (first c (first d (first e (first f (first g h))))))
-unfolding first
-chain a b c d e f g h p1 p2 p3 p4 p5 p6 p7 p8 = rw (p8, p7, p6, p5, p4, p3, p2, p1) (simp first-assoc)
-
 -- a message within the limit is hashed, never refused
-pub first-eight-within : (m bytes : List ℕ) → length m ≤ 2 ^ 48 → bytes ≡ take 8 (digest_or0 m) → bytes ≡ take 8 (md5 m)
-first-eight-within m bytes h e = e ∙ ap (λ b. take 8 (cond b (replicate 16 0) (md5 m))) (le-ltb (2 ^ 48) (length m) h)
-
-pub first-eight-is : (m bytes : List ℕ) → length m ≤ page_size → bytes ≡ take 8 (digest_or0 m) → bytes ≡ take 8 (md5 m)
-first-eight-is m bytes h = first-eight-within m bytes (omega arith)
+pub is-hashed : {T : Type 0} (r : Result T Refusal) (n : ℕ) → n ≤ 2 ^ 48 → check_of r ≡ limited n → IsOk r
+is-hashed (Ok x) n h e = refl
+is-hashed (Err r) n h e = absurd (never (e ∙ quiet hash_limit 0 refl (le-ltb (2 ^ 48) n h)))
 
 -- the n bytes from an offset on, one by one
 unfoldable pub bytes_from : List ℕ → ℕ → ℕ → List ℕ
@@ -91,22 +82,8 @@ pub hash-told : (a b c d : List ℕ) (r : Bool) (number place : ℕ) → r ≡ s
     → refused_if (not (same_bytes c d)) number place ≡ refused_if (not r) number place
 hash-told a b c d r number place e p q = ap (λ t. refused_if (not t) number place) (sym (e ∙ ap₂ same_bytes p q))
 
--- whether a check passes, by what it says and by its test
-pub passes-not : {k : Check} {number place : ℕ} → k ≡ refused number place → passes k ≡ false
-unfolding passes
-passes-not e = ap passes e
-
-passes-test : (r : Bool) (number place : ℕ) → passes (refused_if (not r) number place) ≡ r
-unfolding passes refused_if
-passes-test true number place = refl
-passes-test false number place = refl
-
-pub passes-by : {k : Check} (r : Bool) (number place : ℕ) → k ≡ refused_if (not r) number place → passes k ≡ r
-passes-by r number place e = ap passes e ∙ passes-test r number place
-
 -- what the checks of the footer say of the entry count
 pub count-within : (f : List ℕ) → footer_check f ≡ silent → entry_count_of f ≤ most_entries
-unfolding footer_check
 count-within f e =
     ltb-false most_entries (entry_count_of f)
     (silent-test (ltb most_entries (entry_count_of f)) entry_count 0
@@ -124,16 +101,12 @@ values_one l m e =
     λ i. record { version = v i; offset_width = o i; key_length = k i; entries = n i; pages = p i }
 
 -- a passed index: the check was silent, and the layout is the footer's
-pub passed-index : (k : Check) (l m : Layout) (v : Checked) → outcome v ≡ after k (answered (layout_values m)) → v ≡ Passed l → (k ≡ silent) × (l ≡ m)
-unfolding outcome
-passed-index k l m v e g =
-    let a : (k ≡ silent) × (layout_values l ≡ layout_values m) = answered-after k (layout_values l) (layout_values m) (sym (ap outcome g) ∙ e) in
-    (a.0, values_one l m a.1)
+pub passed-index : (k : Check) (l m : Layout) (v : Result Layout Refusal) → outcome v ≡ after k (answered (layout_values m)) → v ≡ Ok l → (k ≡ silent) × (l ≡ m)
+passed-index k l m v e g = let a = told-answer layout_values k (layout_values m) v e g in (a.0, values_one l m a.1)
 
-pub refused-index : (k : Check) (m : Layout) (v : Checked) {r : Refusal} → outcome v ≡ after k (answered (layout_values m))
-    → v ≡ Refused r → k ≡ refused r.number r.place
-unfolding outcome
-refused-index k m v {r} e g = refusal-after k r.number r.place (layout_values m) (sym (ap outcome g) ∙ e)
+pub refused-index : (k : Check) (m : Layout) (v : Result Layout Refusal) {r : Refusal} → outcome v ≡ after k (answered (layout_values m))
+    → v ≡ Err r → k ≡ refused (number_of r.reason) r.place
+refused-index k m v e g = told-refusal layout_values k (layout_values m) v e g
 
 -- 5, where the checks before it pass
 module _ (s : List ℕ) (l : Layout) (n : ℕ) (reading : footer_reading s ≡ silent) (e : l ≡ layout_of s) (told : n ≡ index_length_of l) where
@@ -141,9 +114,7 @@ module _ (s : List ℕ) (l : Layout) (n : ℕ) (reading : footer_reading s ≡ s
   length-is = ap (eqb (length s)) (told ∙ ap index_length_of e)
 
   pub length-wrong : eqb (length s) n ≡ false → opening s ≡ refused index_length 0
-  unfolding opening
   length-wrong h = skip reading (said refl (ap not (sym length-is ∙ h)))
 
   pub length-right : eqb (length s) n ≡ true → opening s ≡ silent
-  unfolding opening
   length-right h = skip reading (quiet index_length 0 refl (ap not (sym length-is ∙ h)))

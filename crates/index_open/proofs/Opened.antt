@@ -20,7 +20,7 @@ use Rattle.index_layout.specs.declared.Layout.{Layout}
 use Rattle.index_layout.specs.Layout.{page_size, footer_size, hash_length, offset_width_at, key_length_at, least_offset_width, most_offset_width}
 use Rattle.index_layout.specs.Layout.{least_key_length, most_key_length, most_entries, count_check, footer, entry_count_of, key_length_of, offset_width_of}
 use Rattle.index_layout.specs.Layout.{entry_size, full, pages_for, placed_on, on_page, page_offset, index_length_of, layout_from, layout_of}
-use Rattle.index_open.specs.Open.{short_check, field_check, fields_check_with, fields_check, footer_hash_check, footer_check, footer_reading, length_check, opening}
+use Rattle.index_open.specs.Open.{short_check, field_check, fields_check, footer_hash_check, footer_reading, length_check, opening}
 use Rattle.index_layout.specs.Entries.{entries_of, entries_by, list_of}
 use Rattle.index_layout.proofs.Laws.{on-page-placed, on-page-fits, per-page}
 use Rattle.index_open.proofs.Laws.{count-within}
@@ -35,14 +35,12 @@ pub record Opened (s : List ℕ) : Type 0 where
   pub long : footer_size ≤ length s
 
 pub field-range : (f : List ℕ) (at low high number : ℕ) → field_check f at low high number ≡ silent → (low ≤ byte_at f at) × (byte_at f at ≤ high)
-unfolding field_check
 field-range f at low high number e =
     within-range low high (byte_at f at) (not-false _ (silent-test (not (within (byte_at f at) low high)) number at e))
 
 -- the offset width is the fifth row of the table, the key length the seventh
 fields-range : (f : List ℕ) → fields_check f ≡ silent
     → ((least_offset_width ≤ offset_width_of f) × (offset_width_of f ≤ most_offset_width)) × ((least_key_length ≤ key_length_of f) × (key_length_of f ≤ most_key_length))
-unfolding fields_check_with
 fields-range f e =
     let from-reserved = first-right _ _ e in
     let from-second-reserved = first-right _ _ from-reserved in
@@ -55,7 +53,6 @@ fields-range f e =
     )
 
 pub opened : (s : List ℕ) → opening s ≡ silent → Opened s
-unfolding opening footer_check
 opened s e =
     let f : List ℕ = footer s in
     let reading = first-left (footer_reading s) (length_check s) e in

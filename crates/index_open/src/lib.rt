@@ -1,11 +1,11 @@
-#![tactic(auto)]
+#![tactic(auto, unfolding(refusal::specs::Check::first, refusal::specs::Check::refused_if, refusal::specs::Outcome::after))]
 
 // Opening an archive index: the opening checks, and the layout that the footer tells; and whether a footer is that of a loose index.
 ghost use Rattle.std.specs.Prelude.{◌≡◌, not, ◌++◌, ◌<◌, ◌≤◌, length};
 ghost use Rattle.md5_block.specs.Block.{words_of};
 ghost use Rattle.md5_end.specs.End.{padding};
-ghost use Rattle.refusal.specs.Check.{check_of, refused_if, first};
-ghost use Rattle.refusal.specs.Number.{footer_hash};
+ghost use Rattle.refusal.specs.Check.{check_of, refused_if};
+ghost use Rattle.refusal.specs.Number.{footer_hash, number_of};
 ghost use Rattle.index_layout.specs.Layout as layout;
 ghost use Rattle.index_open.specs.Open as spec;
 
@@ -19,21 +19,10 @@ use md5_block::{addends, block};
 use md5_end::{eight, initial};
 use numbers::{little, within, word};
 use parts::{byte, equal, part};
-use refusal::{
-    ENTRY_COUNT, FOOTER_HASH, FOOTER_HASH_LENGTH, FOOTER_KEY_LENGTH, FOOTER_OFFSET_WIDTH,
-    FOOTER_PAGE_SIZE, FOOTER_RESERVED, FOOTER_SIZE_WIDTH, FOOTER_VERSION, INDEX_LENGTH,
-    INDEX_SHORT, Refusal, Verdict, refuse,
-};
+use refusal::{Reason, Refusal};
 
 // The offset width of an index of loose files or of patches.
 pub const LOOSE_OFFSET_WIDTH: u8 = 0;
-
-// What reading the footer of an index, opening or checking it answers.
-#[derive(Clone, Copy)]
-pub enum Checked {
-    Passed(Layout),
-    Refused(Refusal),
-}
 
 // The last 28 bytes.
 fn footer(index: &[u8]) -> &[u8]
@@ -45,54 +34,59 @@ fn footer(index: &[u8]) -> &[u8]
     &index[at..]
 }
 
-// What was judged before, then the footer byte at an offset, which lies from low to high; else its number, at this offset.
-fn check_field(before: Verdict, footer: &[u8], at: usize, low: u8, high: u8, number: u32) -> Verdict
-    ensures { check_of result ≡ first (check_of before) (spec.field_check footer.now at low high number) }
+// The footer byte at an offset, which lies from low to high; else a refusal at this offset.
+fn check_field(footer: &[u8], at: usize, low: u8, high: u8, reason: Reason) -> Result<(), Refusal>
+    ensures { check_of result ≡ spec.field_check footer.now at low high (number_of reason) }
 {
-    if let Verdict::Refused(_) = before {
-        return before;
+    if !within(u32::from(byte(footer, at)), u32::from(low), u32::from(high)) {
+        return Err(reason.at(at));
     }
-    if !within(byte(footer, at) as u32, low as u32, high as u32) {
-        return refuse(number, at);
-    }
-    Verdict::Passed
+    Ok(())
 }
 
 // The same of a field that has one value.
-fn check_value(before: Verdict, footer: &[u8], at: usize, value: u8, number: u32) -> Verdict
-    ensures { check_of result ≡ first (check_of before) (spec.field_check footer.now at value value number) }
+fn check_value(footer: &[u8], at: usize, value: u8, reason: Reason) -> Result<(), Refusal>
+    ensures { check_of result ≡ spec.field_check footer.now at value value (number_of reason) }
 {
-    check_field(before, footer, at, value, value, number)
+    check_field(footer, at, value, value, reason)
 }
 
 // Each field against its list, in the footer's order: version, reserved, page KB, offset width from low to high, size width,
 // key length and hash length.
-fn check_fields(footer: &[u8], low: u8, high: u8) -> Verdict
+fn check_fields(footer: &[u8], low: u8, high: u8) -> Result<(), Refusal>
     ensures { check_of result ≡ spec.fields_check_with footer.now low high }
 {
-    let v = Verdict::Passed;
-    let v = check_field(
-        v,
+    check_field(
         footer,
         VERSION_AT,
         LEAST_VERSION,
         MOST_VERSION,
-        FOOTER_VERSION,
-    );
-    let v = check_value(v, footer, RESERVED_AT, 0, FOOTER_RESERVED);
-    let v = check_value(v, footer, RESERVED_AT + 1, 0, FOOTER_RESERVED);
-    let v = check_value(v, footer, PAGE_KB_AT, PAGE_KB, FOOTER_PAGE_SIZE);
-    let v = check_field(v, footer, OFFSET_WIDTH_AT, low, high, FOOTER_OFFSET_WIDTH);
-    let v = check_value(v, footer, SIZE_WIDTH_AT, SIZE_WIDTH, FOOTER_SIZE_WIDTH);
-    let v = check_field(
-        v,
+        Reason::FooterVersion,
+    )?;
+    check_value(footer, RESERVED_AT, 0, Reason::FooterReserved)?;
+    check_value(footer, RESERVED_AT + 1, 0, Reason::FooterReserved)?;
+    check_value(footer, PAGE_KB_AT, PAGE_KB, Reason::FooterPageSize)?;
+    check_field(
+        footer,
+        OFFSET_WIDTH_AT,
+        low,
+        high,
+        Reason::FooterOffsetWidth,
+    )?;
+    check_value(footer, SIZE_WIDTH_AT, SIZE_WIDTH, Reason::FooterSizeWidth)?;
+    check_field(
         footer,
         KEY_LENGTH_AT,
         LEAST_KEY_LENGTH,
         MOST_KEY_LENGTH,
-        FOOTER_KEY_LENGTH,
-    );
-    check_value(v, footer, HASH_LENGTH_AT, HASH_LENGTH, FOOTER_HASH_LENGTH)
+        Reason::FooterKeyLength,
+    )?;
+    check_value(
+        footer,
+        HASH_LENGTH_AT,
+        HASH_LENGTH,
+        Reason::FooterHashLength,
+    )
 }
 
 // The one block of the message that the footer hash is of: the bytes from the version on, zeros for the hash itself, and the padding.
@@ -139,56 +133,41 @@ fn read_layout(footer: &[u8]) -> Layout
 }
 
 // Refusals 102 to 108, 3 and 4.
-fn check_footer(footer: &[u8]) -> Verdict
+fn check_footer(footer: &[u8]) -> Result<(), Refusal>
     requires { length footer.now ≡ layout.footer_size }
     ensures { check_of result ≡ spec.footer_check footer.now }
 {
-    let fields = check_fields(footer, LEAST_OFFSET_WIDTH, MOST_OFFSET_WIDTH);
-    if let Verdict::Refused(_) = fields {
-        return fields;
-    }
+    check_fields(footer, LEAST_OFFSET_WIDTH, MOST_OFFSET_WIDTH)?;
     if !footer_hash_right(footer) {
-        return refuse(FOOTER_HASH, 0);
+        return Err(Reason::FooterHash.at(0));
     }
     if MOST_ENTRIES < entry_count(footer) {
-        return refuse(ENTRY_COUNT, 0);
+        return Err(Reason::EntryCount.at(0));
     }
-    Verdict::Passed
+    Ok(())
 }
 
 // The opening checks but the last, and what the footer says: the last 28 bytes of a file are enough.
-pub fn read_footer(index: &[u8]) -> Checked
+pub fn read_footer(index: &[u8]) -> Result<Layout, Refusal>
     ensures { spec.outcome result ≡ spec.footer_outcome index.now }
 {
     if index.len() < FOOTER_SIZE {
-        return Checked::Refused(Refusal {
-            number: INDEX_SHORT,
-            place: 0,
-        });
+        return Err(Reason::IndexShort.at(0));
     }
     let footer = footer(index);
-    if let Verdict::Refused(r) = check_footer(footer) {
-        return Checked::Refused(r);
-    }
-    Checked::Passed(read_layout(footer))
+    check_footer(footer)?;
+    Ok(read_layout(footer))
 }
 
 // The opening checks, and what the footer says.
-pub fn open(index: &[u8]) -> Checked
+pub fn open(index: &[u8]) -> Result<Layout, Refusal>
     ensures { spec.outcome result ≡ spec.open_outcome index.now }
 {
-    match read_footer(index) {
-        Checked::Refused(r) => Checked::Refused(r),
-        Checked::Passed(layout) => {
-            if index.len() != layout.length() {
-                return Checked::Refused(Refusal {
-                    number: INDEX_LENGTH,
-                    place: 0,
-                });
-            }
-            Checked::Passed(layout)
-        }
+    let layout = read_footer(index)?;
+    if index.len() != layout.length() {
+        return Err(Reason::IndexLength.at(0));
     }
+    Ok(layout)
 }
 
 // Whether the last 28 bytes are the footer of an index of loose files or of patches.
@@ -199,8 +178,6 @@ pub fn is_loose(index: &[u8]) -> bool
         return false;
     }
     let footer = footer(index);
-    match check_fields(footer, LOOSE_OFFSET_WIDTH, LOOSE_OFFSET_WIDTH) {
-        Verdict::Refused(_) => false,
-        Verdict::Passed => footer_hash_right(footer),
-    }
+    check_fields(footer, LOOSE_OFFSET_WIDTH, LOOSE_OFFSET_WIDTH).is_ok()
+        && footer_hash_right(footer)
 }

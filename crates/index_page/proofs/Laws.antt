@@ -19,12 +19,10 @@ use Rattle.index_page.specs.Page.{values_of, page_in, page_outcome, greatest_pag
 -- the page against the count of pages
 module _ (s : List ℕ) (l : Layout) (p : ℕ) (quiet : opening s ≡ silent) (e : l ≡ layout_of s) where
   pub past_all : l.pages ≤ p → absent [] ≡ page_outcome s p
-  unfolding page_in
   past_all h =
       sym (after-quiet _ quiet ∙ ap (λ b. cond b (answered (values_of (layout_of s) p)) (absent [])) (le-ltb p (layout_of s).pages (rw e at h)))
 
   pub told : (values : List ℕ) → p < l.pages → values ≡ values_of l p → answered values ≡ page_outcome s p
-  unfolding page_in
   told values h v =
       ap answered (rw e at v)
       ∙ sym (after-quiet _ quiet ∙ ap (λ b. cond b (answered (values_of (layout_of s) p)) (absent [])) (lt-ltb p (layout_of s).pages (rw e at h)))
@@ -42,7 +40,6 @@ pages-few s quiet = go (dec_lt greatest_page (layout_of s).pages)
 
 -- a number above it is absent, as that page is
 page-absent : (l : Layout) (p : ℕ) → l.pages ≤ p → page_in l p ≡ absent []
-unfolding page_in
 page-absent l p h = ap (λ b. cond b (answered (values_of l p)) (absent [])) (le-ltb p l.pages h)
 
 page-in : (l : Layout) (m n : ℕ) → l.pages ≤ greatest_page → m ≡ min n greatest_page → page_in l m ≡ page_in l n

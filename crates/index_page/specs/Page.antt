@@ -1,15 +1,16 @@
 -- Where a page of an index and its parts stand: rule I31.
-use Rattle.std.specs.Prelude.{◌≡◌, cond, List, [], ◌∷◌, ℕ, ◌+◌, ◌*◌, ◌<◌, min, ltb}
+use Rattle.std.specs.Prelude.{◌≡◌, cond, List, [], ◌∷◌, ℕ, ◌+◌, ◌*◌, ◌<◌, min, ltb, Option, Some, None, Result, Ok, Err}
 use Rattle.parts.specs.Part.{part_at}
 use Rattle.refusal.specs.Check.{silent}
 use Rattle.refusal.specs.Outcome.{Outcome, answered, absent, refusal, after}
+use Rattle.refusal.specs.Number.{number_of}
+use Rattle.refusal.specs.declared.Refusal.{Refusal}
 use Rattle.index_layout.specs.declared.Layout.{Layout}
-use Rattle.index_layout.specs.Layout.{page_size, hash_length, entry_size, on_page, entry_number, page_offset, entry_at, last_key_offset, page_hash_at, layout_of}
+use Rattle.index_layout.specs.Layout.{page_size, hash_length, entry_size, on_page, entry_number, page_offset, entry_at}
+use Rattle.index_layout.specs.Layout.{last_key_offset, page_hash_at, layout_of}
 use Rattle.index_layout.specs.Entries.{list_of}
 use Rattle.index_open.specs.Open.{opening}
 use Rattle.index_page.specs.declared.Places.{Places}
-use Rattle.index_page.specs.declared.Answer.{Answer}
-use Rattle.index_page.specs.declared.Answer.TheVariants.{Found, Absent, Refused}
 
 -- The first entry of a page is that of its slot 0 (rule I7).
 abbrev pub first_entry_of : Layout → ℕ → ℕ
@@ -17,7 +18,7 @@ first_entry_of l p = entry_number l p 0
 
 -- What is told of page p: place and length of the page, of its stored last key and of its stored hash, the number of its first
 -- entry, and how many entries it has (rules I7, I9, I31).
-unfoldable pub values_of : Layout → ℕ → List ℕ
+abbrev pub values_of : Layout → ℕ → List ℕ
 values_of l p =
     page_offset p
     ∷ page_size
@@ -30,7 +31,7 @@ values_of l p =
     ∷ []
 
 -- An index of P pages has those from 0 to P - 1 (rule I31).
-unfoldable pub page_in : Layout → ℕ → Outcome
+abbrev pub page_in : Layout → ℕ → Outcome
 page_in l p = cond (ltb p l.pages) (answered (values_of l p)) (absent [])
 
 -- By the opening checks alone (rule I31).
@@ -38,7 +39,7 @@ abbrev pub page_outcome : List ℕ → ℕ → Outcome
 page_outcome s p = after (opening s) (page_in (layout_of s) p)
 
 -- What the declared answers tell.
-unfoldable pub values : Places → List ℕ
+abbrev pub values : Places → List ℕ
 values p =
     p.page_at
     ∷ page_size
@@ -50,10 +51,10 @@ values p =
     ∷ p.entries
     ∷ []
 
-unfoldable pub outcome : Answer → Outcome
-outcome (Found p) = answered (values p)
-outcome Absent = absent []
-outcome (Refused r) = refusal r.number r.place
+abbrev pub outcome : Result (Option Places) Refusal → Outcome
+outcome (Ok (Some p)) = answered (values p)
+outcome (Ok None) = absent []
+outcome (Err r) = refusal (number_of r.reason) r.place
 
 -- The page of a number that comes from outside: the greatest that the code holds for any above it. No index has that page, so the
 -- answer is that of the number itself (`PageOfNumber`).

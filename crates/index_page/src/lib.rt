@@ -5,7 +5,6 @@ ghost use Rattle.std.specs.Prelude.{◌≡◌};
 ghost use Rattle.index_page.specs.Page as spec;
 
 use index_layout::{Layout, Page, Slot, page_at};
-use index_open::Checked;
 use refusal::Refusal;
 
 // The greatest number that a `Page` holds.
@@ -23,14 +22,6 @@ pub struct Places {
     pub entries: usize,
 }
 
-// What is answered for a page.
-#[derive(Clone, Copy)]
-pub enum Answer {
-    Found(Places),
-    Absent,
-    Refused(Refusal),
-}
-
 // Where the parts of a page stand.
 fn places_of(l: Layout, page: Page) -> Places
     ensures { spec.values result ≡ spec.values_of l page.0 }
@@ -46,27 +37,20 @@ fn places_of(l: Layout, page: Page) -> Places
     }
 }
 
-// A page. The opening checks; no page is checked.
-pub fn find(index: &[u8], page: Page) -> Answer
+// A page, if the index has it. The opening checks; no page is checked.
+pub fn find(index: &[u8], page: Page) -> Result<Option<Places>, Refusal>
     ensures { spec.outcome result ≡ spec.page_outcome index.now page.0 }
 {
-    match index_open::open(index) {
-        Checked::Refused(r) => Answer::Refused(r),
-        Checked::Passed(l) => {
-            if l.pages <= page.0 {
-                return Answer::Absent;
-            }
-            Answer::Found(places_of(l, page))
-        }
+    let l = index_open::open(index)?;
+    if l.pages <= page.0 {
+        return Ok(None);
     }
+    Ok(Some(places_of(l, page)))
 }
 
 // The page of a number that comes from outside: the greatest for any above it, which no index has.
 pub fn page_of(number: u64) -> Page
     ensures { result.0 ≡ spec.page_of_number number }
 {
-    if number > GREATEST_PAGE {
-        return Page(GREATEST_PAGE as u32);
-    }
-    Page(number as u32)
+    Page(number.min(GREATEST_PAGE) as u32)
 }

@@ -28,7 +28,7 @@ use Rattle.index_layout.specs.Layout.{footer, version, footer_hash_of, entry_siz
 use Rattle.index_layout.specs.Layout.{page_offset, entry_at, last_key_offset, page_hash_at, index_length_of, layout_with, layout_from, layout_of, page_of}
 use Rattle.index_layout.specs.Entries.{entries_of, entries_by, list_of}
 use Rattle.index_layout.proofs.Laws.{on-page-placed, on-page-fits}
-use Rattle.index_open.specs.Open.{field_check, fields_check_with, fields_check, hashed_footer, footer_hash_check}
+use Rattle.index_open.specs.Open.{field_check, fields_check, hashed_footer, footer_hash_check}
 use Rattle.index_open.specs.Open.{footer_check, footer_reading, short_check, length_check, opening}
 use Rattle.index_open.proofs.Laws.{bytes_from, part_bytes}
 use Rattle.index_open.proofs.Opened.{Opened, opened, field-range, full-positive, entries-held, list_length, entries-length, page-inside}
@@ -189,12 +189,11 @@ module _ (f : List ℕ) (size : length f ≡ footer_size) (bytes : (i : ℕ) →
       omega (arith, r.0, r.1)
 
   version_low : version f ≤ most_version
-  unfolding fields_check_with
   version_low = (field-range f version_at least_version most_version _ (first-left _ _ e)).1
 
   -- the fields are those of the layout
   fields-again : part_at f version_at (footer_hash_at - version_at) ≡ fields (layout_from f)
-  unfolding fields_check_with fields layout_from bytes_from
+  unfolding fields layout_from bytes_from
   fields-again =
       let from-reserved = first-right _ _ e in
       let from-second-reserved = first-right _ _ from-reserved in
@@ -211,7 +210,7 @@ module _ (f : List ℕ) (size : length f ≡ footer_size) (bytes : (i : ℕ) →
       (ap₂ ◌∷◌ refl (ap₂ ◌∷◌ (exact hash_length_at hash_length _ hash-length-silent) (sym (little-again f entry_count_at 4 bytes)))))))))
 
   footer-again : (contents : List ℕ) → footer_hash_check f ≡ silent → footer_with (layout_from f) contents ≡ take hash_length (md5 contents) ++ drop hash_length f
-  unfolding footer_with hashed_fields footer_hash_check
+  unfolding footer_with hashed_fields
   footer-again contents h =
       let hash : take hash_length (md5 (hashed_footer f)) ≡ footer_hash_of f = same_bytes-eq _ _ (not-false _ (silent-test _ footer_hash 0 h)) in
       ap (λ r. take hash_length (md5 contents) ++ r)
@@ -233,7 +232,6 @@ module _ (s : List ℕ) (bytes : (i : ℕ) → byte_at s i < 256) (e : full_chec
   pages-silent = first-right (opening s) (pages_check s (layout_of s)) e
 
   foot-silent : footer_check (footer s) ≡ silent
-  unfolding opening
   foot-silent = first-right (short_check s) (footer_check (footer s)) (first-left (footer_reading s) (length_check s) opening-silent)
 
   foot-length : length (footer s) ≡ footer_size
@@ -243,11 +241,9 @@ module _ (s : List ℕ) (bytes : (i : ℕ) → byte_at s i < 256) (e : full_chec
   foot-bytes i = rw (get_or-drop (length s - footer_size) s i 0) (bytes (length s - footer_size + i))
 
   fields-silent : fields_check (footer s) ≡ silent
-  unfolding footer_check
   fields-silent = first-left (fields_check (footer s)) _ foot-silent
 
   hash-silent : footer_hash_check (footer s) ≡ silent
-  unfolding footer_check
   hash-silent = first-left (footer_hash_check (footer s)) _ (first-right (fields_check (footer s)) _ foot-silent)
 
   pub version-again : (layout_of s).version ≤ most_version

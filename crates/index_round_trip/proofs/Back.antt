@@ -19,6 +19,7 @@ use Rattle.md5_digest.specs.Message.{md5, digest_of, little_bytes}
 use Rattle.key.specs.Order.{compared, is_below}
 use Rattle.refusal.specs.Check.{silent}
 use Rattle.refusal.specs.Number.{index_short, footer_hash, entry_count, index_length, index_page_hash, index_padding, index_order, last_key}
+use Rattle.refusal.specs.Number.{footer_version, footer_reserved, footer_page_size, footer_offset_width, footer_size_width, footer_key_length, footer_hash_length}
 use Rattle.refusal.proofs.Laws.{quiet, skip, from-silent}
 use Rattle.index_layout.specs.declared.Layout.{Layout}
 use Rattle.index_layout.specs.Layout.{page_size, footer_size, hash_length, version_at, reserved_at, page_kb_offset, offset_width_at, size_width_at, key_length_at}
@@ -27,7 +28,7 @@ use Rattle.index_layout.specs.Layout.{least_key_length, most_key_length, most_en
 use Rattle.index_layout.specs.Layout.{on_page, entry_number, page_offset, entry_at, last_key_offset, page_hash_at, index_length_of, layout_with, layout_from, layout_of, page_of}
 use Rattle.index_layout.specs.Entries.{entries_of, entries_by, list_of}
 use Rattle.index_layout.proofs.Laws.{placed-full, placed-fits, on-page-placed}
-use Rattle.index_open.specs.Open.{field_check, fields_check_with, fields_check, footer_hash_check, footer_check, opening}
+use Rattle.index_open.specs.Open.{field_check, fields_check, footer_hash_check, footer_check, opening}
 use Rattle.index_open.proofs.Opened.{pages-hold}
 use Rattle.index.specs.Check.{page_hash_check, padding_check, not_above, order_check, last_key_check, page_check, pages_check, full_check}
 use Rattle.index_footer.specs.Footer.{fields, hashed_fields, footer_with}
@@ -62,33 +63,31 @@ module _ (l : Layout) (contents : List ℕ) where
   footer-layout h e = ap (layout_with l.version l.offset_width l.key_length) (footer-count h) ∙ sym e
 
 field-quiet : (f : List ℕ) (at low high number x : ℕ) → byte_at f at ≡ x → low ≤ x → x ≤ high → field_check f at low high number ≡ silent
-unfolding field_check
 field-quiet f at low high number x e h k =
     quiet number at refl (ap not (ap (λ n. within n low high) e ∙ within-inside low high x h k))
 
 module _ (l : Layout) (contents : List ℕ) (v : l.version ≤ most_version) (o : (least_offset_width ≤ l.offset_width) × (l.offset_width ≤ most_offset_width))
     (k : (least_key_length ≤ l.key_length) × (l.key_length ≤ most_key_length)) where
   fields-quiet : fields_check (footer_with l contents) ≡ silent
-  unfolding fields_check_with footer_with hashed_fields fields md5 digest_of little_bytes
+  unfolding footer_with hashed_fields fields md5 digest_of little_bytes
   fields-quiet =
-      skip (field-quiet _ version_at least_version most_version _ l.version refl (omega arith) v)
-      (skip (field-quiet _ reserved_at 0 0 _ 0 refl (omega arith) (omega arith))
-      (skip (field-quiet _ (reserved_at + 1) 0 0 _ 0 refl (omega arith) (omega arith))
-      (skip (field-quiet _ page_kb_offset page_kb_value page_kb_value _ page_kb_value refl (omega arith) (omega arith))
-      (skip (field-quiet _ offset_width_at least_offset_width most_offset_width _ l.offset_width refl o.0 o.1)
-      (skip (field-quiet _ size_width_at size_width size_width _ size_width refl (omega arith) (omega arith))
-      (skip (field-quiet _ key_length_at least_key_length most_key_length _ l.key_length refl k.0 k.1)
-      (field-quiet _ hash_length_at hash_length hash_length _ hash_length refl (omega arith) (omega arith))))))))
+      let f : List ℕ = footer_with l contents in
+      skip (field-quiet f version_at least_version most_version footer_version l.version refl (omega arith) v)
+      (skip (field-quiet f reserved_at 0 0 footer_reserved 0 refl (omega arith) (omega arith))
+      (skip (field-quiet f (reserved_at + 1) 0 0 footer_reserved 0 refl (omega arith) (omega arith))
+      (skip (field-quiet f page_kb_offset page_kb_value page_kb_value footer_page_size page_kb_value refl (omega arith) (omega arith))
+      (skip (field-quiet f offset_width_at least_offset_width most_offset_width footer_offset_width l.offset_width refl o.0 o.1)
+      (skip (field-quiet f size_width_at size_width size_width footer_size_width size_width refl (omega arith) (omega arith))
+      (skip (field-quiet f key_length_at least_key_length most_key_length footer_key_length l.key_length refl k.0 k.1)
+      (field-quiet f hash_length_at hash_length hash_length footer_hash_length hash_length refl (omega arith) (omega arith))))))))
 
   hash-quiet : footer_hash_check (footer_with l contents) ≡ silent
-  unfolding footer_hash_check
   hash-quiet =
       quiet footer_hash 0 refl
       (ap not (same_bytes-of-eq _ _ (ap (λ s. take hash_length (md5 (s ++ replicate hash_length 0))) (footer-fields l contents)
       ∙ sym (footer-hash-there l contents))))
 
   footer-quiet : l.entries ≤ most_entries → footer_check (footer_with l contents) ≡ silent
-  unfolding footer_check
   footer-quiet h =
       skip fields-quiet (skip hash-quiet (quiet entry_count 0 refl (ap (ltb most_entries) (footer-count l contents (omega arith))
       ∙ le-ltb most_entries l.entries h)))
@@ -267,7 +266,6 @@ module _ (s : Settings) (list : List ℕ) (room : ℕ) (Quiet-write : write_chec
   layout-back = ap layout_from (footer-there list l stored) ∙ footer-layout l _ (omega (arith, few)) refl
 
   opening-quiet : opening (file_of list l) ≡ silent
-  unfolding opening
   opening-quiet =
       skip (skip (quiet index_short 0 refl (le-ltb (length (file_of list l)) footer_size (omega (arith, file-length list l stored, index-long l))))
       (ap footer_check (footer-there list l stored) ∙ footer-quiet l _ ranges.0 ranges.1.0 ranges.1.1 few))

@@ -10,8 +10,8 @@ use Rattle.parts.specs.Part.{byte_at}
 use Rattle.parts.proofs.Laws.{overlay-length}
 use Rattle.refusal.specs.Check.{silent}
 use Rattle.refusal.specs.Number.{output_short}
-use Rattle.refusal.specs.declared.Written.{Written}
-use Rattle.refusal.specs.declared.Written.TheVariants.{Bytes, Refused}
+use Rattle.std.specs.Prelude.{Result, Ok, Err}
+use Rattle.refusal.specs.declared.Refusal.{Refusal}
 use Rattle.refusal.specs.Outcome.{answered, written_outcome}
 use Rattle.refusal.specs.Output.{filled}
 use Rattle.refusal.proofs.Laws.{quiet, skip, first-left, after-quiet, answered-after}
@@ -43,10 +43,9 @@ written-again s bytes e room h =
 -- ---- over the answers
 
 -- what an answer is where its outcome is known
-written_is : (answer : Written) (n : ℕ) → written_outcome answer ≡ answered (n ∷ []) → answer ≡ Bytes n
-unfolding written_outcome
-written_is (Bytes m) n e = ap Bytes (cc e)
-written_is (Refused r) n e =
+written_is : (answer : Result ℕ Refusal) (n : ℕ) → written_outcome answer ≡ answered (n ∷ []) → answer ≡ Ok n
+written_is (Ok m) n e = ap Ok (cc e)
+written_is (Err r) n e =
     let none : ◌≡◌ {A = ℕ} 0 1 = cc e in
     absurd (omega (arith, none))
 
@@ -55,13 +54,13 @@ begins : (answer output : List ℕ) (n : ℕ) → n ≡ length answer → take n
 begins answer output n e = take_at answer (drop (length answer) output) n (sym e)
 
 -- a checked index is listed where there is room
-module _ (s lent : List ℕ) (answer : Written) (left : List ℕ) (c : Lists s lent answer left) (e : full_check s ≡ silent)
+module _ (s lent : List ℕ) (answer : Result ℕ Refusal) (left : List ℕ) (c : Lists s lent answer left) (e : full_check s ≡ silent)
     (room : length (list_of s) ≤ length lent) where
   list-quiet : list_check s (length lent) ≡ silent
   unfolding list_check
   list-quiet = skip e (quiet output_short 0 refl (le-ltb (length lent) (length (list_of s)) room))
 
-  list-answer : answer ≡ Bytes (length (list_of s))
+  list-answer : answer ≡ Ok (length (list_of s))
   list-answer = written_is answer (length (list_of s)) (c.answers ∙ after-quiet _ list-quiet)
 
   list_left : left ≡ list_of s ++ drop (length (list_of s)) lent
@@ -77,7 +76,7 @@ module _ (s : List ℕ) (c : Again s) where
   unfolding full_check
   opening-told = first-left (opening s) (pages_check s (layout_of s)) told.0
 
-  listed-told : c.listed ≡ Bytes (length (list_of s))
+  listed-told : c.listed ≡ Ok (length (list_of s))
   listed-told = list-answer s c.list_lent c.listed c.listing c.list told.0 c.list_room
 
   list_read : take (bytes_listed c.listed) c.listing ≡ list_of s
@@ -111,7 +110,6 @@ module _ (t : Settings) (list : List ℕ) (c : Back t list) where
   file = file_of list (layout_for t list)
 
   write-told : (write_check t list (length c.file_lent) ≡ silent) × (c.size ≡ index_length_of (layout_for t list))
-  unfolding written_outcome
   write-told =
       let a = answered-after (write_check t list (length c.file_lent)) (c.size ∷ []) (index_length_of (layout_for t list) ∷ [])
       (sym (ap written_outcome c.passed) ∙ c.write.answers) in
@@ -141,7 +139,7 @@ module _ (t : Settings) (list : List ℕ) (c : Back t list) where
     checked = c.check ∙ after-quiet _ full-told ∙ ap (λ s. answered (layout_values (layout_of s))) file-read
         ∙ ap (λ l. answered (layout_values l)) (layout-back t list (length c.file_lent) write-told.0);
     listed = list-answer (take c.size c.output) c.list_lent c.listed c.listing c.relist full-told list-fits
-        ∙ ap (λ r. Bytes (length r)) list-told;
+        ∙ ap (λ r. Ok (length r)) list-told;
     entries = list_left (take c.size c.output) c.list_lent c.listed c.listing c.relist full-told list-fits
         ∙ ap (λ r. r ++ drop (length r) c.list_lent) list-told;
   }

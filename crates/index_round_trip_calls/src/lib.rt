@@ -1,4 +1,4 @@
-#![tactic(auto)]
+#![tactic(auto, unfolding(refusal::specs::Check::first, refusal::specs::Check::refused_if, refusal::specs::Outcome::after))]
 
 // A checked index, listed and written again, and a written one, read back: the calls of demand 2, one after the other. The demand is
 // what the two functions ensure, so that it rests on the contracts of the functions they call.
@@ -9,51 +9,45 @@ ghost use Rattle.index_round_trip.specs.Same.{settings_of};
 ghost use Rattle.index_round_trip_calls.specs.Trips as spec;
 
 use index_layout::Layout;
-use index_open::Checked;
 use index_writer::Settings;
 use parts::part;
-use refusal::Written;
+use refusal::Refusal;
 
 // The settings of an index.
+#[tactic(auto, unfolding(index_round_trip::specs::Same::settings_of))]
 fn settings_of(l: Layout) -> Settings
     ensures { result ≡ settings_of l }
 {
-    let version = l.version;
-    let offset_width = l.offset_width;
-    let key_length = l.key_length;
     Settings {
-        version,
-        offset_width,
-        key_length,
+        version: l.version,
+        offset_width: l.offset_width,
+        key_length: l.key_length,
     }
 }
 
 // Lists an index that passes the full check, and writes it again from that list and its settings.
-pub fn write_again(index: &[u8], list: &mut [u8], file: &mut [u8]) -> Written
+pub fn write_again(index: &[u8], list: &mut [u8], file: &mut [u8]) -> Result<usize, Refusal>
     ensures result_value { written_outcome result ≡ spec.again_outcome index.now (length list.old) (length file.old) }
     ensures list_after { list.new ≡ spec.left_by_list index.now list.old }
     ensures file_after { file.new ≡ spec.file_again index.now (length list.old) file.old }
 {
-    match index::check(index) {
-        Checked::Refused(r) => Written::Refused(r),
-        Checked::Passed(l) => match index_list::list(index, list) {
-            Written::Refused(r) => Written::Refused(r),
-            Written::Bytes(n) => index_writer::write(settings_of(l), part(list, 0, n), file),
-        },
-    }
+    let l = index::check(index)?;
+    let n = index_list::list(index, list)?;
+    index_writer::write(settings_of(l), part(list, 0, n), file)
 }
 
 // Writes an index, checks it and lists it again.
-pub fn read_back(settings: Settings, list: &[u8], file: &mut [u8], again: &mut [u8]) -> Checked
+pub fn read_back(
+    settings: Settings,
+    list: &[u8],
+    file: &mut [u8],
+    again: &mut [u8],
+) -> Result<Layout, Refusal>
     ensures result_value { checks.outcome result ≡ spec.back_outcome settings list.now (length file.old) (length again.old) }
     ensures file_after { file.new ≡ spec.file_left settings list.now file.old }
     ensures again_after { again.new ≡ spec.list_read_back settings list.now (length file.old) again.old }
 {
-    match index_writer::write(settings, list, file) {
-        Written::Refused(r) => Checked::Refused(r),
-        Written::Bytes(n) => match index_list::list(part(file, 0, n), again) {
-            Written::Refused(r) => Checked::Refused(r),
-            Written::Bytes(_) => index::check(part(file, 0, n)),
-        },
-    }
+    let n = index_writer::write(settings, list, file)?;
+    index_list::list(part(file, 0, n), again)?;
+    index::check(part(file, 0, n))
 }

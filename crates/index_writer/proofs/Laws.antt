@@ -1,57 +1,26 @@
 -- Laws of the writer's refusals, in their order.
 use mathlib.Core.Path.{◌≡◌, refl, sym, ap, ◌∙◌}
-use mathlib.Core.Bool.{Bool, true, false, not}
+use mathlib.Core.Bool.{true, not}
 use mathlib.Core.List.{List}
 use Prim.Native.Nat.{ℕ, ◌+◌, ◌-◌, ◌%◌, ◌≤◌, ◌<◌}
 use native.Mathlib.Omega.{arith}
 use lib.Dec.{ltb}
 use lib.ListN.{length}
-use borrow.Author.Tests.{lt-ltb, le-ltb, eq-eqb, ne_eqb}
+use borrow.Author.Tests.{lt-ltb, le-ltb, eq-eqb}
 use Rattle.refusal.specs.Check.{Check, silent, refused, refused_if, first}
 use Rattle.refusal.specs.Number.{settings, list_length, entry_count, index_order, output_short}
-use Rattle.refusal.proofs.Laws.{said, quiet, first_said, skip}
+use Rattle.refusal.proofs.Laws.{said, quiet, skip}
 use Rattle.rising.specs.Fall.{rises_at, fall_from}
 use Rattle.rising.proofs.Laws.{fall-check, fall-low}
-use Rattle.numbers.specs.Number.{within}
-use Rattle.index_layout.specs.Layout.{least_version, most_version, least_offset_width, most_offset_width}
-use Rattle.index_layout.specs.Layout.{least_key_length, most_key_length, most_entries, count_check, index_length_of}
+use Rattle.index_layout.specs.Layout.{most_entries, count_check, index_length_of}
 use Rattle.index_writer.specs.declared.Settings.{Settings}
 use Rattle.index_writer.specs.Write.{list_entry_size, list_count, layout_for, settings_right, settings_check}
 use Rattle.index_writer.specs.Write.{whole_check, key_in_list, list_order_check, rising_check, input_check, write_check}
 
--- the settings, field by field
-module _ (s : Settings) where
-  pub version-wrong : within s.version least_version most_version ≡ false → false ≡ settings_right s
-  unfolding settings_right
-  version-wrong v = rw v
-
-  pub width-wrong : within s.version least_version most_version ≡ true → within s.offset_width least_offset_width most_offset_width ≡ false
-      → false ≡ settings_right s
-  unfolding settings_right
-  width-wrong v w = rw (v, w)
-
-  pub key_left : (r : Bool) → within s.version least_version most_version ≡ true → within s.offset_width least_offset_width most_offset_width ≡ true
-      → r ≡ within s.key_length least_key_length most_key_length → r ≡ settings_right s
-  unfolding settings_right
-  key_left r v w k = rw (v, w) k
-
+-- whole entries, few enough, and the first key that is not above the one before it
 module _ (s : Settings) (list : List ℕ) where
-  pub judged-11 : settings_right s ≡ false → input_check s list ≡ refused settings 0
-  unfolding input_check
-  judged-11 e = first_said _ (said refl (ap not e))
-
   module _ (right : settings_right s ≡ true) where
-    pub judged-12 : (length list % list_entry_size s ≡ 0 → ⊥) → input_check s list ≡ refused list_length 0
-    unfolding input_check
-    judged-12 h = skip (quiet settings 0 refl (ap not right)) (first_said _ (said refl (ap not (ne_eqb _ 0 h))))
-
     module _ (whole : length list % list_entry_size s ≡ 0) where
-      pub judged-4 : most_entries < list_count s list → input_check s list ≡ refused entry_count 0
-      unfolding input_check
-      judged-4 h =
-          skip (quiet settings 0 refl (ap not right)) (skip (quiet list_length 0 refl (ap not (eq-eqb _ 0 whole)))
-          (first_said _ (said refl (lt-ltb most_entries (list_count s list) h))))
-
       module _ (few : list_count s list ≤ most_entries) (fall : ℕ) (f : fall ≡ fall_from list (list_entry_size s) s.key_length 1 (list_count s list - 1)) where
         rising-told : rising_check s list ≡ refused_if (ltb fall (1 + (list_count s list - 1))) index_order fall
         unfolding list_order_check key_in_list rises_at

@@ -1,9 +1,9 @@
-#![tactic(auto)]
+#![tactic(auto, unfolding(refusal::specs::Check::first, refusal::specs::Check::refused_if, refusal::specs::Outcome::after))]
 
 // Writing an archive index from its settings and its list.
 ghost use Rattle.std.specs.Prelude.{◌≡◌, ◌≤◌, length};
 ghost use Rattle.refusal.specs.Check.{silent};
-ghost use Rattle.refusal.specs.Outcome.{answered, refusal, after, written_outcome};
+ghost use Rattle.refusal.specs.Outcome.{answered, after, written_outcome};
 ghost use Rattle.refusal.specs.Output.{filled};
 ghost use Rattle.index_layout.specs.Layout.{index_length_of};
 ghost use Rattle.index_open.specs.Open as check;
@@ -17,9 +17,8 @@ use index_layout::{
     LEAST_KEY_LENGTH, LEAST_OFFSET_WIDTH, LEAST_VERSION, Layout, MOST_ENTRIES, MOST_KEY_LENGTH,
     MOST_OFFSET_WIDTH, MOST_VERSION,
 };
-use index_open::Checked;
 use numbers::within;
-use refusal::{ENTRY_COUNT, INDEX_ORDER, LIST_LENGTH, OUTPUT_SHORT, Refusal, SETTINGS, Written};
+use refusal::{Reason, Refusal};
 
 // What an index is written with, beside its list: version, offset width and key length.
 #[derive(Clone, Copy)]
@@ -29,53 +28,53 @@ pub struct Settings {
     pub key_length: u8,
 }
 
-fn refuse(number: u32, place: usize) -> Checked
-    ensures { check.outcome result ≡ refusal number place }
-{
-    Checked::Refused(Refusal { number, place })
-}
-
 // Whether version, offset width and key length are ones that an index may have.
+#[tactic(auto, unfolding(crate::specs::Write::settings_right))]
 pub fn settings_right(settings: Settings) -> bool
     ensures { result ≡ spec.settings_right settings }
 {
-    let version = settings.version as u32;
-    if !within(version, LEAST_VERSION as u32, MOST_VERSION as u32) {
-        return false;
-    }
-    let width = settings.offset_width as u32;
-    if !within(width, LEAST_OFFSET_WIDTH as u32, MOST_OFFSET_WIDTH as u32) {
-        return false;
-    }
-    let key = settings.key_length as u32;
-    within(key, LEAST_KEY_LENGTH as u32, MOST_KEY_LENGTH as u32)
+    within(
+        u32::from(settings.version),
+        u32::from(LEAST_VERSION),
+        u32::from(MOST_VERSION),
+    ) && within(
+        u32::from(settings.offset_width),
+        u32::from(LEAST_OFFSET_WIDTH),
+        u32::from(MOST_OFFSET_WIDTH),
+    ) && within(
+        u32::from(settings.key_length),
+        u32::from(LEAST_KEY_LENGTH),
+        u32::from(MOST_KEY_LENGTH),
+    )
 }
 
 // Refusals 11, 12, 4 and 8, and the layout of the file.
-fn judge(settings: Settings, list: &[u8]) -> Checked
+fn judge(settings: Settings, list: &[u8]) -> Result<Layout, Refusal>
     ensures { check.outcome result
         ≡ after (spec.input_check settings list.now) (answered (check.layout_values (spec.layout_for settings list.now))) }
 {
     if !settings_right(settings) {
-        return refuse(SETTINGS, 0);
+        return Err(Reason::Settings.at(0));
     }
-    let version = settings.version;
-    let offset_width = settings.offset_width;
-    let key_length = settings.key_length;
+    let Settings {
+        version,
+        offset_width,
+        key_length,
+    } = settings;
     let size = Layout::new(version, offset_width, key_length, 0).entry_size();
     if list.len() % size != 0 {
-        return refuse(LIST_LENGTH, 0);
+        return Err(Reason::ListLength.at(0));
     }
     let entries = list.len() / size;
     if MOST_ENTRIES < entries as u64 {
-        return refuse(ENTRY_COUNT, 0);
+        return Err(Reason::EntryCount.at(0));
     }
     let count = entries as u32;
     let fall = rising::fall(list, size as u16, key_length, count);
     if fall < count {
-        return refuse(INDEX_ORDER, fall as usize);
+        return Err(Reason::IndexOrder.at(fall as usize));
     }
-    Checked::Passed(Layout::new(version, offset_width, key_length, count))
+    Ok(Layout::new(version, offset_width, key_length, count))
 }
 
 // The whole file, part by part.
@@ -91,33 +90,23 @@ fn write_file(list: &[u8], l: Layout, output: &mut [u8])
 }
 
 // Writes the index of a list into the output.
-pub fn write(settings: Settings, list: &[u8], output: &mut [u8]) -> Written
+pub fn write(settings: Settings, list: &[u8], output: &mut [u8]) -> Result<usize, Refusal>
     ensures result_value { written_outcome result ≡ spec.write_outcome settings list.now (length output.old) }
     ensures output_after { output.new
         ≡ filled (spec.write_check settings list.now (length output.old))
         (file_of list.now (spec.layout_for settings list.now)) output.old }
 {
-    match judge(settings, list) {
-        Checked::Refused(r) => Written::Refused(r),
-        Checked::Passed(l) => {
-            if output.len() < l.length() {
-                return Written::Refused(Refusal {
-                    number: OUTPUT_SHORT,
-                    place: 0,
-                });
-            }
-            write_file(list, l, output);
-            Written::Bytes(l.length())
-        }
+    let l = judge(settings, list)?;
+    if output.len() < l.length() {
+        return Err(Reason::OutputShort.at(0));
     }
+    write_file(list, l, output);
+    Ok(l.length())
 }
 
 // The length of the file that a list gives.
-pub fn written_length(settings: Settings, list: &[u8]) -> Written
+pub fn written_length(settings: Settings, list: &[u8]) -> Result<usize, Refusal>
     ensures { written_outcome result ≡ spec.length_outcome settings list.now }
 {
-    match judge(settings, list) {
-        Checked::Refused(r) => Written::Refused(r),
-        Checked::Passed(l) => Written::Bytes(l.length()),
-    }
+    Ok(judge(settings, list)?.length())
 }

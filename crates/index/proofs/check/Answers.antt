@@ -1,35 +1,33 @@
 -- `index::check`: the opening checks, then the pages.
 use mathlib.Core.Path.{sym, ap, ◌∙◌}
-use Rattle.refusal.proofs.Laws.{first_said, skip, refused-is, passed_is, after-said, after-quiet}
+use Rattle.std.proofs.lemmas.Result.{err_from_is_err_and}
+use Rattle.refusal.proofs.Laws.{skip, after-said, after-quiet, answered-after, refusal_first}
 use Rattle.index_layout.specs.Layout.{layout_of}
-use Rattle.index_open.specs.Open.{opening, outcome}
+use Rattle.index_open.specs.Open.{opening}
+use Rattle.index_open.proofs.Laws.{values_one}
 use Rattle.index.specs.Check.{pages_check, full_check}
-use Rattle.index_open.proofs.Laws.{passed-index, refused-index}
 use Rattle.index.proofs.check.Goals as goal
 
-pub returns-in-Refused : goal.returns-in-Refused
-unfolding full_check outcome
-returns-in-Refused c =
-    let s = c.args.index.now in
-    let o = c.open-opened in
-    let v = c.check_pages in
-    let i = passed-index (opening s) _ (layout_of s) o.result o.ensures c.in-Passed.is in
-    sym (after-said _ (skip i.0 (refused-is v.result _ (v.ensures ∙ ap (pages_check s) i.1) c.in-Refused.is)))
-
-pub returns-in_default-check_pages : goal.returns-in_default-check_pages
+pub returns-in_err-layout : goal.returns-in_err-layout
 unfolding full_check
-returns-in_default-check_pages c =
+returns-in_err-layout c =
     let s = c.args.index.now in
-    let o = c.open-opened in
-    let v = c.check_pages in
-    let i = passed-index (opening s) _ (layout_of s) o.result o.ensures c.in-Passed.is in
-    ap outcome (sym c.in-Passed.is) ∙ o.ensures ∙ after-quiet _ i.0
-    ∙ sym (after-quiet _ (skip i.0 (passed_is v.result _ (v.ensures ∙ ap (pages_check s) i.1) c.in_default-check_pages.is)))
+    let p = err_from_is_err_and c.from_residual.result c.from_residual.ensures.1 in
+    rw (p.1, p.2) (refusal_first (opening s) (pages_check s (layout_of s)) _ _ c.in_err-layout.ensures)
 
-pub returns-in_default : goal.returns-in_default
+pub returns-in_err-check_pages : goal.returns-in_err-check_pages
 unfolding full_check
-returns-in_default c =
+returns-in_err-check_pages c =
     let s = c.args.index.now in
-    let o = c.open-opened in
-    let e = refused-index (opening s) (layout_of s) o.result o.ensures c.in_default.is in
-    o.ensures ∙ after-said _ e ∙ sym (after-said _ (first_said _ e))
+    let p = err_from_is_err_and c.from_residual-in_err-check_pages.result c.from_residual-in_err-check_pages.ensures.1 in
+    let i = answered-after (opening s) _ _ c.in_ok-layout.ensures in
+    let l = values_one c.in_ok-layout.layout (layout_of s) i.1 in
+    rw (p.1, p.2) (sym (after-said _ (skip i.0 (sym (c.in_err-check_pages.ensures ∙ ap (pages_check s) l)))))
+
+pub returns : goal.returns
+unfolding full_check
+returns c =
+    let s = c.args.index.now in
+    let i = answered-after (opening s) _ _ c.in_ok-layout.ensures in
+    let l = values_one c.in_ok-layout.layout (layout_of s) i.1 in
+    rw i.1 (sym (after-quiet _ (skip i.0 (sym (c.in_ok-check_pages.ensures ∙ ap (pages_check s) l)))))

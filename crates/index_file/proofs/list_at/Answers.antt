@@ -1,6 +1,4 @@
 -- `index_file::list_at`: entries before it times the bytes of each.
-use mathlib.Core.Path.{ap₂}
-use Prim.Native.Nat.{◌*◌}
 use native.Mathlib.Omega.{arith}
 use Rattle.index_layout.specs.Layout.{full}
 use Rattle.index_layout.proofs.Laws.{bound, full-most}
@@ -12,6 +10,3 @@ overflow_mul-result c =
     let most = bound c.args.page.0 (full l) 4294967295 1024 (omega arith) (full-most l) in
     let number = c.placed_number in
     omega (arith, bound number.result c.entry_size.result 4402341477375 514 (omega (arith, most, number.ensures)) (omega arith))
-
-pub returns : goal.returns
-returns c = ap₂ ◌*◌ c.placed_number.ensures c.entry_size.ensures.value

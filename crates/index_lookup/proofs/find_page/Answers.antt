@@ -1,7 +1,10 @@
 -- `index_lookup::find_page` meets its contract: the last keys stand one after the other.
+use mathlib.Core.Path.{◌≡◌}
 use Rattle.index_lookup.proofs.Laws.{page-halved}
 use Rattle.index_lookup.proofs.find_page.Goals as goal
 
-pub returns : goal.returns
-returns c =
-    let a = c.args in record { result_value = page-halved _ _ a.l c.requires _ _ _ c.part-last_keys.ensures.result_value c.last_key_at.ensures c.halve-halved.ensures.value; compared_bound = c.halve-halved.ensures.count_bound }
+pub returns-clause-result_value : goal.returns-clause-result_value
+returns-clause-result_value c =
+    let a = c.args in
+    let width : c.from.result ≡ a.l.key_length = c.from.ensures in
+    page-halved _ _ a.l c.requires _ _ _ c.part-last_keys.ensures.result_value c.last_key_at.ensures (rw width at c.halve-halved.ensures.value)

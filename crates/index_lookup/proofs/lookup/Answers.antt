@@ -1,36 +1,37 @@
 -- `index_lookup::lookup` meets its contract: the opening checks, 10, then the halving.
+use mathlib.Core.Path.{◌≡◌}
+use lib.ListN.{length}
+use Rattle.std.proofs.lemmas.Result.{err_from_is_err_and}
+use Rattle.refusal.proofs.Laws.{refusal-after, answered-after}
 use Rattle.index_layout.specs.Layout.{layout_of}
 use Rattle.index_open.specs.Open.{opening}
-use Rattle.index_open.proofs.Laws.{passed-index, refused-index}
-use Rattle.index_lookup.specs.Lookup.{outcome}
+use Rattle.index_open.proofs.Laws.{values_one}
 use Rattle.index_lookup.proofs.Laws.{width_fits, not_opened, other_length, looked-up}
 use Rattle.index_lookup.proofs.lookup.Goals as goal
 
-pub returns-then-key-l : goal.returns-then-key-l
-unfolding outcome
-returns-then-key-l c =
+pub returns-in_err-l : goal.returns-in_err-l
+returns-in_err-l c =
     let s = c.args.index.now in
-    let o = c.open in
-    let opened = passed-index (opening s) _ (layout_of s) o.result o.ensures c.in-Passed.is in
-    other_length s _ _ opened.0 opened.1 c.if-key-l.true
+    let p = err_from_is_err_and c.from_residual.result c.from_residual.ensures.1 in
+    rw (p.1, p.2) (not_opened s _ (refusal-after (opening s) _ _ _ c.in_err-l.ensures))
+
+pub returns-then-key-from : goal.returns-then-key-from
+returns-then-key-from c =
+    let s = c.args.index.now in
+    let opened = answered-after (opening s) _ _ c.in_ok-l.ensures in
+    rw c.at.ensures (other_length s _ _ opened.0 (values_one _ _ opened.1) (rw c.from.ensures at c.if-key-from.true))
 
 pub seek-requires : goal.seek-requires
 seek-requires c =
     let s = c.args.index.now in
-    let o = c.open in
-    let opened = passed-index (opening s) _ (layout_of s) o.result o.ensures c.in-Passed.is in
-    (c.if-key-l.false, rw opened.1 (width_fits s opened.0))
+    let l = c.in_ok-l.l in
+    let opened = answered-after (opening s) _ _ c.in_ok-l.ensures in
+    let same : l ≡ layout_of s = values_one _ _ opened.1 in
+    let size : length c.args.key.now ≡ l.key_length = rw c.from.ensures at c.if-key-from.false in
+    (size, rw same (width_fits s opened.0))
 
-pub returns-in-Refused : goal.returns-in-Refused
-unfolding outcome
-returns-in-Refused c =
+pub returns : goal.returns
+returns c =
     let s = c.args.index.now in
-    let o = c.open in
-    not_opened s _ (refused-index (opening s) (layout_of s) o.result o.ensures c.in-Refused.is)
-
-pub returns-else-key-l : goal.returns-else-key-l
-returns-else-key-l c =
-    let s = c.args.index.now in
-    let o = c.open in
-    let opened = passed-index (opening s) _ (layout_of s) o.result o.ensures c.in-Passed.is in
-    looked-up s _ _ opened.0 opened.1 _ c.if-key-l.false c.seek.ensures
+    let opened = answered-after (opening s) _ _ c.in_ok-l.ensures in
+    looked-up s _ _ opened.0 (values_one _ _ opened.1) _ (rw c.from.ensures at c.if-key-from.false) c.seek.ensures

@@ -3,24 +3,22 @@ use mathlib.Core.Path.{◌∙◌}
 use Rattle.index_layout.specs.Layout.{layout_of}
 use Rattle.index_open.proofs.Laws.{passed-index, refused-index}
 use Rattle.index.specs.Check.{full_check}
-use Rattle.index_lookup.specs.Lookup.{outcome, bound_outcome}
 use Rattle.index_lookup_calls.proofs.Laws.{lookup-checked, bound-checked, lookup-refused, bound-refused, bound-told}
 use Rattle.index_lookup_calls.proofs.look.Goals as goal
 
-pub returns-in-Refused : goal.returns-in-Refused
-unfolding outcome bound_outcome
-returns-in-Refused c =
+pub returns-in-Err : goal.returns-in-Err
+returns-in-Err c =
     let a = c.args in
     let s = a.index.now in
     let k = a.key.now in
-    let no = refused-index (full_check s) (layout_of s) c.check-checked.result c.check-checked.ensures c.in-Refused.is in
-    record { looked_value = lookup-refused s k _ _ no; most_value = bound-refused s k _ _ no; by_index = λ n e. bound-told s k _ n (bound-refused s k _ _ no) e }
+    let no = refused-index (full_check s) (layout_of s) c.check.result c.check.ensures c.in-Err.is in
+    record { looked_value = lookup-refused s k _ _ no; most_value = bound-refused s k _ _ no; by_index = tt }
 
 pub returns : goal.returns
 returns c =
     let a = c.args in
     let s = a.index.now in
     let k = a.key.now in
-    let yes = (passed-index (full_check s) _ (layout_of s) c.check-checked.result c.check-checked.ensures c.in_default.is).0 in
-    let most = c.bound-most.ensures ∙ bound-checked s k yes in
-    record { looked_value = c.lookup-looked.ensures ∙ lookup-checked s k yes; most_value = most; by_index = λ n e. bound-told s k _ n most e }
+    let yes = (passed-index (full_check s) _ (layout_of s) c.check.result c.check.ensures c.in_default.is).0 in
+    let most = c.bound.ensures ∙ bound-checked s k yes in
+    record { looked_value = c.lookup.ensures ∙ lookup-checked s k yes; most_value = most; by_index = bound-told s k _ most }

@@ -1,7 +1,6 @@
 -- `index::pages::padding_zero`: the bytes after the entries.
 use Prim.Native.Nat.{◌*◌, ◌≤◌}
 use native.Mathlib.Omega.{arith}
-use Rattle.index.specs.Check.{padding_check}
 use Rattle.index_layout.proofs.Laws.{on-page-most, on-page-fits}
 use Rattle.index.proofs.pages.padding_zero.Goals as goal
 
@@ -21,8 +20,3 @@ pub overflow_sub-count : goal.overflow_sub-count
 overflow_sub-count c =
     let a = c.args in
     rw (c.on_page-count.ensures, c.entry_size.ensures.value) (on-page-fits a.l a.page.0)
-
-pub returns : goal.returns
-unfolding padding_check
-returns c =
-    rw (c.all_zero.ensures, c.part.ensures.result_value, c.entry_at-at.ensures, c.entry_size.ensures.value, c.on_page-count.ensures)
