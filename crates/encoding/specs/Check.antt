@@ -41,7 +41,7 @@ unfoldable pub all_specs_known : List ℕ → Header → Kind → ℕ → Bool
 all_specs_known s h kind i = all (spec_known s h kind (specs_of s h)) (entries_of s h kind i).entries
 
 -- 34, 35, 37, 36, 38, in this order, by what is found of page i; the place of 38 is 0 (rule E15).
-unfoldable pub check_in_order : (i : ℕ) (hashed over starts rises known : Bool) → Check
+abbrev pub check_in_order : (i : ℕ) (hashed over starts rises known : Bool) → Check
 check_in_order i hashed over starts rises known =
     first (refused_if (not hashed) encoding_page_hash i)
     (first (refused_if over entry_over_page i)
@@ -59,5 +59,5 @@ unfoldable pub pages_check : List ℕ → Header → Kind → Check
 pages_check s h kind = first_from (page_check s h kind) 0 (table_of h kind).pages
 
 -- The full check: 30 to 33, then content pages, then encoding pages (rule E16).
-unfoldable pub full_check : List ℕ → Check
+abbrev pub full_check : List ℕ → Check
 full_check s = first (opening s) (first (pages_check s (header_of s) Content) (pages_check s (header_of s) Encoding))

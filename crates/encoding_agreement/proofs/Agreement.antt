@@ -68,20 +68,17 @@ found_some s key at begun f =
 
 module _ (s : List ℕ) (passed : full_check s ≡ silent) where
   begun : opening s ≡ silent
-  unfolding full_check
   begun = first-left _ _ passed
 
   content-silent : pages_check s (header_of s) Content ≡ silent
-  unfolding full_check
   content-silent = first-left _ _ (first-right (opening s) _ passed)
 
   encoding-silent : pages_check s (header_of s) Encoding ≡ silent
-  unfolding full_check
   encoding-silent = first-right (pages_check s (header_of s) Content) _ (first-right (opening s) _ passed)
 
   module _ (key : List ℕ) (size : length key ≡ (header_of s).content.key_size) where
     content-same : content_lookup s key ≡ plain_content s key
-    unfolding content_lookup plain_content plain_reading content_values table_of
+    unfolding plain_content plain_reading content_values table_of
     content-same =
         after-quiet _ (unrefused s Content key begun size)
         ∙ search-told s (header_of s) Content (content_told s (header_of s)) (content_values s (header_of s)) content-silent key (λ at f. refl)
@@ -126,7 +123,7 @@ module _ (s : List ℕ) (passed : full_check s ≡ silent) where
         at f)
 
     encoding-same : encoding_lookup s key ≡ plain_encoding s key
-    unfolding encoding_lookup plain_encoding plain_reading encoding_values encoding_told table_of
+    unfolding plain_encoding plain_reading encoding_values table_of
     encoding-same =
         let h : Header = header_of s in
         after-quiet _ (unrefused s Encoding key begun size)

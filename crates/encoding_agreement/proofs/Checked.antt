@@ -24,7 +24,6 @@ record Sound (hashed over starts rises known : Bool) : Type 0 where
   numbers-right : known ≡ true
 
 sound : (i : ℕ) (hashed over starts rises known : Bool) → check_in_order i hashed over starts rises known ≡ silent → Sound hashed over starts rises known
-unfolding check_in_order
 sound i hashed over starts rises known e =
     let after-hash = first-right (refused_if (not hashed) encoding_page_hash i) _ e in
     let after-over = first-right (refused_if over entry_over_page i) _ after-hash in

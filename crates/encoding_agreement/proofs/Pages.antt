@@ -10,8 +10,8 @@ use native.Mathlib.Omega.{arith}
 use Rattle.parts.specs.Part.{same_bytes, parts_from}
 use Rattle.parts.proofs.Laws.{by-test, same_bytes-eq, same_bytes-not}
 use Rattle.parts.proofs.Parts.{parts-append}
-use Rattle.key.specs.declared.Order.{Order}
-use Rattle.key.specs.declared.Order.TheVariants.{Below, Equal, Above}
+use Rattle.std.specs.declared.cmp.Ordering.{Ordering}
+use Rattle.std.specs.declared.cmp.Ordering.TheVariants.{Less, Equal, Greater}
 use Rattle.key.specs.Order.{compared, is_below, is_above}
 use Rattle.key.proofs.Laws.{below-not-equal, is_below-true, equal-of-eq, below-of-above, below-trans, below-then-not-above}
 use Rattle.encoding_header.proofs.Laws.{met}
@@ -21,19 +21,19 @@ use Rattle.encoding_agreement.specs.Plain.{found, nowhere, first_with}
 
 -- ---- above or not
 
-above-true : (o : Order) → is_above o ≡ true → o ≡ Above
-above-true Below e = absurd (false≢true e)
+above-true : (o : Ordering) → is_above o ≡ true → o ≡ Greater
+above-true Less e = absurd (false≢true e)
 above-true Equal e = absurd (false≢true e)
-above-true Above e = refl
+above-true Greater e = refl
 
-above-false : (o : Order) → is_above o ≡ false → o ≡ Above → ⊥
+above-false : (o : Ordering) → is_above o ≡ false → o ≡ Greater → ⊥
 above-false o e g = false≢true (sym e ∙ ap is_above g)
 
 -- ---- entries in a row
 
 module _ (key : ℕ → List ℕ) where
   -- the key before rises to the first one, and that to the others
-  rises-to : (before : List ℕ) (at : ℕ) (a : List ℕ) → rising key before (at ∷ a) ≡ true → (compared before (key at) ≡ Below) × (rising key (key at) a ≡ true)
+  rises-to : (before : List ℕ) (at : ℕ) (a : List ℕ) → rising key before (at ∷ a) ≡ true → (compared before (key at) ≡ Less) × (rising key (key at) a ≡ true)
   unfolding rising
   rises-to before at a r =
       let p = (and-eq-true_iff (rises_to before (key at)) (rising key (key at) a)).0 r in
@@ -57,7 +57,7 @@ module _ (key : ℕ → List ℕ) where
   starts-append first (at ∷ a) b e = e
 
   -- the key before rises to the first one
-  starts-above : (before first a : List ℕ) → starts_with key first a ≡ true → rising key before a ≡ true → compared before first ≡ Below
+  starts-above : (before first a : List ℕ) → starts_with key first a ≡ true → rising key before a ≡ true → compared before first ≡ Less
   unfolding starts_with
   starts-above before first [] e r = absurd (false≢true e)
   starts-above before first (at ∷ a) e r = rw (same_bytes-eq first (key at) e) (rises-to before at a r).0
@@ -70,14 +70,14 @@ module _ (key : ℕ → List ℕ) where
     first-append (at ∷ a) b e = ap (cond (same_bytes (key at) sought) (found at)) (first-append a b e)
 
     -- Entries whose last key is below the sought one: so are all of them, and the key before.
-    before-below : (before a : List ℕ) → rising key before a ≡ true → compared (last_key_before key before a) sought ≡ Below → compared before sought ≡ Below
+    before-below : (before a : List ℕ) → rising key before a ≡ true → compared (last_key_before key before a) sought ≡ Less → compared before sought ≡ Less
     unfolding rising last_key_before
     before-below before [] r l = l
     before-below before (at ∷ a) r l =
         let p = rises-to before at a r in
         below-trans before (key at) sought p.0 (before-below (key at) a p.1 l)
 
-    below-passed : (before a b : List ℕ) → rising key before a ≡ true → compared (last_key_before key before a) sought ≡ Below
+    below-passed : (before a b : List ℕ) → rising key before a ≡ true → compared (last_key_before key before a) sought ≡ Less
         → first_with key sought (a ++ b) ≡ first_with key sought b
     unfolding rising last_key_before first_with
     below-passed before [] b r l = refl
@@ -87,7 +87,7 @@ module _ (key : ℕ → List ℕ) where
         rw other (below-passed (key at) a b p.1 l)
 
     -- Entries behind a key that is above the sought one: so are all of them.
-    above-none : (before a : List ℕ) → rising key before a ≡ true → compared sought before ≡ Below → first_with key sought a ≡ nowhere
+    above-none : (before a : List ℕ) → rising key before a ≡ true → compared sought before ≡ Less → first_with key sought a ≡ nowhere
     unfolding rising first_with
     above-none before [] r l = refl
     above-none before (at ∷ a) r l =
@@ -96,12 +96,12 @@ module _ (key : ℕ → List ℕ) where
         let other = same_bytes-not (key at) sought (λ e. below-not-equal above (equal-of-eq _ _ (sym e))) in
         rw other (above-none (key at) a p.1 above)
 
-    starts_none : (before first a : List ℕ) → starts_with key first a ≡ true → rising key before a ≡ true → compared sought first ≡ Below
+    starts_none : (before first a : List ℕ) → starts_with key first a ≡ true → rising key before a ≡ true → compared sought first ≡ Less
         → first_with key sought a ≡ nowhere
     unfolding starts_with rising first_with
     starts_none before first [] e r l = refl
     starts_none before first (at ∷ a) e r l =
-        let above : compared sought (key at) ≡ Below = rw (same_bytes-eq first (key at) e) at l in
+        let above : compared sought (key at) ≡ Less = rw (same_bytes-eq first (key at) e) at l in
         let other = same_bytes-not (key at) sought (λ g. below-not-equal above (equal-of-eq _ _ (sym g))) in
         rw other (above-none (key at) a (rises-to before at a r).1 above)
 

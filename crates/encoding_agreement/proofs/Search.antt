@@ -10,8 +10,7 @@ use Rattle.refusal.specs.Outcome.{Outcome, answered}
 use Rattle.encoding_header.specs.declared.Kind.{Kind}
 use Rattle.encoding_header.specs.declared.Header.{Header}
 use Rattle.encoding_header.specs.Header.{table_of, page_end}
-use Rattle.encoding_page.specs.declared.Search.{Search}
-use Rattle.encoding_page.specs.declared.Search.TheVariants.{At, End}
+use Rattle.std.specs.Prelude.{Result, Ok, Err}
 use Rattle.encoding_page.specs.Entries.{Walk, key_at, over_end, search_in, entries_of, all_entries}
 use Rattle.encoding.specs.Check.{pages_check}
 use Rattle.encoding_index.specs.Chosen.{first_key_above, pages_up_to}
@@ -21,9 +20,9 @@ use Rattle.encoding_agreement.proofs.Pages.{Chosen, chosen, page_up_to, pages-ag
 use Rattle.encoding_agreement.proofs.Checked.{not-over, pages}
 
 -- Where a search of entries ends that finds what the plain reading of them finds.
-unfoldable search_of : ℕ → Plain → Search
-search_of end (found at) = At at
-search_of end nowhere = End end
+unfoldable search_of : ℕ → Plain → Result ℕ ℕ
+search_of end (found at) = Ok at
+search_of end nowhere = Err end
 
 search_is : (key : ℕ → List ℕ) (sought a : List ℕ) (end : ℕ) → search_in key sought a end ≡ search_of end (first_with key sought a)
 unfolding search_in first_with search_of
@@ -39,15 +38,16 @@ module _ (s : List ℕ) (h : Header) (kind : Kind) (told : ℕ → Outcome) (val
   -- a page that no entry is over
   page-told : (i end : ℕ) (p : Plain) → over_end s kind (page_end h kind i) end ≡ false → Told told values p
       → seek_told told (page_seek s h kind i (search_of end p)) ≡ plain_told values p
-  unfolding search_of page_seek seek_told plain_told
+  unfolding search_of page_seek plain_told
   page-told i end (found at) e is = is at refl
   page-told i end nowhere e is = rw e
 
   module _ (passed : pages_check s h kind ≡ silent) (sought : List ℕ) where
     chosen-told : (c : ℕ) → Chosen (first_key_above s h kind sought) (table_of h kind).pages c
         → Told told values (first_with (key_at s h kind) sought (page_up_to (λ i. (entries_of s h kind i).entries) c))
-        → seek_told told (seek_on s h kind sought c) ≡ plain_told values (first_with (key_at s h kind) sought (page_up_to (λ i. (entries_of s h kind i).entries) c))
-    unfolding seek_on page_up_to first_with seek_told plain_told entries_of
+        → seek_told told (seek_on s h kind sought c)
+        ≡ plain_told values (first_with (key_at s h kind) sought (page_up_to (λ i. (entries_of s h kind i).entries) c))
+    unfolding seek_on page_up_to first_with plain_told entries_of
     chosen-told zero k is = refl
     chosen-told (suc i) k is =
         let w : Walk = entries_of s h kind i in

@@ -19,7 +19,7 @@ use Rattle.spec_table.proofs.Table.{strings-counted, spec-table, start-run, spec
 use Rattle.encoding_header.specs.declared.Header.{Header}
 use Rattle.encoding_header.specs.Header.{header_size, header_of, index_at, spec_table, opening}
 use Rattle.encoding_header.proofs.Laws.{whole, spec-length}
-use Rattle.encoding_lookup.specs.Lookup.{spec_check, spec_told, spec_lookup, part_after, spec_string, place_after, spec_string_at}
+use Rattle.encoding_lookup.specs.Lookup.{spec_check, spec_told, part_after, spec_string, place_after, spec_string_at}
 use Rattle.encoding_agreement.specs.Plain.{plain_spec}
 use Rattle.encoding_agreement.specs.Agreement.{Stands, SpecAgreement}
 
@@ -50,7 +50,7 @@ stands s n begun l =
 
 -- what is told of a number is what the strings tell
 spec-plain : (s : List ℕ) (n : ℕ) → spec_told s (header_of s) n ≡ plain_spec s n
-unfolding spec_told plain_spec
+unfolding plain_spec
 spec-plain s n = go (dec_lt n (count_of t))
   where
     h : Header
@@ -69,7 +69,7 @@ spec-plain s n = go (dec_lt n (count_of t))
         after-said _ (spec-said s h n (omega arith)) ∙ sym (rw past)
 
 pub spec-agrees : SpecAgreement
-unfolding spec_lookup spec_told spec_string part_after spec_string_at place_after
+unfolding spec_string part_after spec_string_at place_after
 spec-agrees s n begun =
     let h : Header = header_of s in
     let t : List ℕ = spec_table s h in

@@ -34,7 +34,6 @@ length-right s kind key e = eqb-true _ _ (not-false _ (silent-test _ encoding_ke
 checked-told : (s : List ℕ) (kind : Kind) (key : List ℕ) (told plain : Outcome) → full_check s ≡ silent
     → (length key ≡ (table_of (header_of s) kind).key_size → after (lookup_check s kind key) told ≡ plain)
     → after (lookup_check s kind key) told ≡ after (first (full_check s) (length_check (header_of s) kind key)) plain
-unfolding lookup_check full_check
 checked-told s kind key told plain passed same = go (length_check (header_of s) kind key) refl
   where
     go : (k : Check) → length_check (header_of s) kind key ≡ k
@@ -45,11 +44,11 @@ checked-told s kind key told plain passed same = go (length_check (header_of s) 
 module _ (s key : List ℕ) where
   module _ (passed : full_check s ≡ silent) where
     pub content-checked : content_lookup s key ≡ checked_content s key
-    unfolding content_lookup checked_content table_of
+    unfolding checked_content table_of
     content-checked = checked-told s Content key _ (plain_content s key) passed (λ size. (content-agrees s passed key size).same)
 
     pub encoding_checked : encoding_lookup s key ≡ checked_encoding s key
-    unfolding encoding_lookup checked_encoding table_of
+    unfolding checked_encoding table_of
     encoding_checked = checked-told s Encoding key _ (plain_encoding s key) passed (λ size. (encoding-agrees s passed key size).same)
 
   module _ (n p : ℕ) (e : full_check s ≡ refused n p) where
@@ -65,7 +64,7 @@ module _ (s key : List ℕ) where
 
 module _ (s : List ℕ) (n : ℕ) where
   pub spec-opened : spec_lookup s n ≡ opened_spec s n
-  unfolding spec_lookup opened_spec
+  unfolding opened_spec
   spec-opened = go (opening s) refl
     where
       go : (k : Check) → opening s ≡ k → spec_lookup s n ≡ opened_spec s n
@@ -86,7 +85,6 @@ module _ (s : List ℕ) (n : ℕ) where
         absurd (let z : ◌≡◌ {A = ℕ} 0 1 = cc in omega arith)
 
     found-spec : (spec_string s n ≡ part_at s at count) × (spec_string_at s n ≡ at)
-    unfolding spec_lookup
     found-spec = go (opening s) refl
       where
         go : (k : Check) → opening s ≡ k → (spec_string s n ≡ part_at s at count) × (spec_string_at s n ≡ at)

@@ -1,6 +1,6 @@
 -- Laws of the header: what a file that passes 30 to 33 is known to be, and that its parts stand inside it.
-use mathlib.Core.Path.{◌≡◌, sym, ap, ◌∙◌}
-use mathlib.Core.Bool.{Bool, true, false, not, ◌&&◌}
+use mathlib.Core.Path.{◌≡◌, ap, ◌∙◌}
+use mathlib.Core.Bool.{Bool, true, not, ◌&&◌}
 use mathlib.Core.List.{List}
 use Prim.Native.Nat.{ℕ, ◌+◌, ◌-◌, ◌*◌, ◌≤◌, ◌<◌}
 use native.Mathlib.Nat.{mul-le-mul_right, suc-mul}
@@ -14,27 +14,22 @@ use Rattle.numbers.specs.Number.{within}
 use Rattle.numbers.proofs.Laws.{within-range}
 use Rattle.refusal.specs.declared.Refusal.{Refusal}
 use Rattle.refusal.specs.Check.{Check, silent, refused}
-use Rattle.refusal.specs.Number.{encoding_header, encoding_cut, spec_table_open}
+use Rattle.refusal.specs.Number.{encoding_header, encoding_cut, spec_table_open, number_of}
 use Rattle.refusal.specs.Outcome.{answered, after}
-use Rattle.refusal.proofs.Laws.{silent-test, first-left, first-right, answered-after, refusal-after}
+use Rattle.refusal.proofs.Laws.{silent-test, first-left, first-right, told-answer, told-refusal}
 use Rattle.encoding_header.specs.declared.Kind.{Kind}
 use Rattle.encoding_header.specs.declared.Kind.TheVariants.{Content, Encoding}
 use Rattle.encoding_header.specs.declared.Table.{Table}
 use Rattle.encoding_header.specs.declared.Header.{Header}
-use Rattle.encoding_header.specs.declared.Opened.{Opened}
-use Rattle.encoding_header.specs.declared.Opened.TheVariants.{Passed, Refused}
+use Rattle.std.specs.Prelude.{Result, Ok, Err}
 use Rattle.encoding_header.specs.Header.{header_size, version_at, flags_at, version, least_key_size, most_key_size, flags, hash_size, header_of, table_of}
 use Rattle.encoding_header.specs.Header.{row_size, page_size, index_size, table_size, index_at, row_at, page_offset, end_of, spec_table, first_key_at, page_hash}
 use Rattle.encoding_header.specs.Header.{page_of, magic_check, table_right, header_right, header_check, cut_check, opening, table_values, header_values}
 use Rattle.encoding_header.specs.Header.{outcome}
 
--- ---- tests in a row: one that holds, and the first that fails
-
+-- a test that holds, before others
 pub met : {p q r : Bool} → p ≡ true → q ≡ r → (p && q) ≡ r
 met {q = q} e h = ap (λ p. p && q) e ∙ h
-
-pub failed : {p : Bool} (q : Bool) → p ≡ false → (p && q) ≡ false
-failed q e = ap (λ p. p && q) e
 
 -- ---- what opening answers
 
@@ -56,16 +51,13 @@ values_one h m e =
     }
 
 -- a passed file: the check was silent, and the header is the file's
-pub passed-header : (k : Check) (h m : Header) (v : Opened) → outcome v ≡ after k (answered (header_values m)) → v ≡ Passed h → (k ≡ silent) × (h ≡ m)
-unfolding outcome
-passed-header k h m v e g =
-    let a : (k ≡ silent) × (header_values h ≡ header_values m) = answered-after k (header_values h) (header_values m) (sym (ap outcome g) ∙ e) in
-    (a.0, values_one h m a.1)
+pub passed-header : (k : Check) (h m : Header) (v : Result Header Refusal) → outcome v ≡ after k (answered (header_values m))
+    → v ≡ Ok h → (k ≡ silent) × (h ≡ m)
+passed-header k h m v e g = let a = told-answer header_values k (header_values m) v e g in (a.0, values_one h m a.1)
 
-pub refused-header : (k : Check) (m : Header) (v : Opened) {r : Refusal} → outcome v ≡ after k (answered (header_values m)) → v ≡ Refused r
-    → k ≡ refused r.number r.place
-unfolding outcome
-refused-header k m v {r} e g = refusal-after k r.number r.place (header_values m) (sym (ap outcome g) ∙ e)
+pub refused-header : (k : Check) (m : Header) (v : Result Header Refusal) {r : Refusal} → outcome v ≡ after k (answered (header_values m)) → v ≡ Err r
+    → k ≡ refused (number_of r.reason) r.place
+refused-header k m v e g = told-refusal header_values k (header_values m) v e g
 
 -- ---- what a file that passes is known to be
 
@@ -96,7 +88,7 @@ ranged t e =
     record { key-least = k.0; key-most = k.1; kb-some = some t.page_kb b.0; pages-some = some t.pages b.1 }
 
 pub whole : (s : List ℕ) → opening s ≡ silent → Whole s
-unfolding opening header_right
+unfolding header_right
 whole s e =
     let h : Header = header_of s in
     let a = first-right (magic_check s) _ e in

@@ -1,16 +1,15 @@
 -- The header of an encoding file s and where its parts stand: rules E1 to E3 and E14. Numbers are big-endian.
-use Rattle.std.specs.Prelude.{Bool, not, ◌&&◌, List, [], ◌∷◌, ◌++◌, ℕ, ◌+◌, ◌-◌, ◌*◌, ltb, leb, eqb, length}
+use Rattle.std.specs.Prelude.{Bool, not, ◌&&◌, List, [], ◌∷◌, ◌++◌, ℕ, ◌+◌, ◌-◌, ◌*◌, ltb, leb, eqb, length, Result}
 use Rattle.parts.specs.Part.{byte_at, part_at, same_bytes}
 use Rattle.numbers.specs.Number.{big_at, within}
 use Rattle.refusal.specs.Check.{Check, refused_if, first}
 use Rattle.refusal.specs.Number.{not_encoding, encoding_header, encoding_cut, spec_table_open}
-use Rattle.refusal.specs.Outcome.{Outcome, answered, refusal, after}
+use Rattle.refusal.specs.Outcome.{Outcome, answered, after, outcome_by}
+use Rattle.refusal.specs.declared.Refusal.{Refusal}
 use Rattle.encoding_header.specs.declared.Kind.{Kind}
 use Rattle.encoding_header.specs.declared.Kind.TheVariants.{Content, Encoding}
 use Rattle.encoding_header.specs.declared.Table.{Table}
 use Rattle.encoding_header.specs.declared.Header.{Header}
-use Rattle.encoding_header.specs.declared.Opened.{Opened}
-use Rattle.encoding_header.specs.declared.Opened.TheVariants.{Passed, Refused}
 
 -- The header of 22 bytes: "EN", version, key sizes, page sizes in KB, page counts, flags, spec table size (rule E1).
 abbrev pub header_size : ℕ
@@ -159,7 +158,7 @@ abbrev pub closed_check : List ℕ → Check
 closed_check s = refused_if (not (eqb (byte_at s (index_at (header_of s) Content - 1)) 0)) spec_table_open 0
 
 -- 30 to 33, in this order (rule E14).
-unfoldable pub opening : List ℕ → Check
+abbrev pub opening : List ℕ → Check
 opening s = first (magic_check s) (first (header_check s) (first (cut_check s) (closed_check s)))
 
 -- The values of a header.
@@ -169,9 +168,8 @@ table_values t = t.key_size ∷ t.page_kb ∷ t.pages ∷ []
 unfoldable pub header_values : Header → List ℕ
 header_values h = h.spec_size ∷ table_values h.content ++ table_values h.encoding
 
-unfoldable pub outcome : Opened → Outcome
-outcome (Passed h) = answered (header_values h)
-outcome (Refused r) = refusal r.number r.place
+abbrev pub outcome : Result Header Refusal → Outcome
+outcome = outcome_by header_values
 
 abbrev pub open_outcome : List ℕ → Outcome
 open_outcome s = after (opening s) (answered (header_values (header_of s)))

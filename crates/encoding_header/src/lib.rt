@@ -1,14 +1,13 @@
-#![tactic(auto)]
+#![tactic(auto, unfolding(refusal::specs::Check::first, refusal::specs::Check::refused_if, refusal::specs::Outcome::after))]
 
 // The header of an encoding file: refusals 30 to 33, and where its parts stand. Every value of a header is answered for: the
 // types keep each sum and product within its range. specs/Header.antt has the same names, as that language writes them.
 ghost use Rattle.std.specs.Prelude.{◌≡◌, ◌+◌, min, length};
-ghost use Rattle.refusal.specs.Outcome.{refusal};
 ghost use Rattle.encoding_header.specs.Header as spec;
 
 use numbers::{big, within};
 use parts::{byte, equal, part};
-use refusal::{ENCODING_CUT, ENCODING_HEADER, NOT_ENCODING, Refusal, SPEC_TABLE_OPEN};
+use refusal::{Reason, Refusal};
 
 pub const HEADER_SIZE: usize = 22;
 
@@ -68,29 +67,25 @@ pub struct Header {
     pub spec_size: u32,
 }
 
-// What opening an encoding file answers.
-#[derive(Clone, Copy)]
-pub enum Opened {
-    Passed(Header),
-    Refused(Refusal),
-}
-
 impl Table {
     // The bytes of an index entry: first key and MD5 of the page.
+    #[tactic(auto, unfolding(crate::specs::Header::row_size))]
     pub fn row_size(self) -> usize
         ensures { result ≡ spec.row_size self }
     {
-        self.key_size as usize + HASH_SIZE
+        usize::from(self.key_size) + HASH_SIZE
     }
 
     // The bytes of a page.
+    #[tactic(auto, unfolding(crate::specs::Header::page_size))]
     pub fn page_size(self) -> usize
         ensures { result ≡ spec.page_size self }
     {
-        self.page_kb as usize * KB
+        usize::from(self.page_kb) * KB
     }
 
     // The bytes of the index.
+    #[tactic(auto, unfolding(crate::specs::Header::index_size))]
     pub fn index_size(self) -> usize
         ensures { result ≡ spec.index_size self }
     {
@@ -98,6 +93,7 @@ impl Table {
     }
 
     // The bytes of the index and the pages.
+    #[tactic(auto, unfolding(crate::specs::Header::table_size))]
     pub fn size(self) -> usize
         ensures { result ≡ spec.table_size self }
     {
@@ -107,6 +103,7 @@ impl Table {
 
 impl Header {
     // What the header says of a kind's pages.
+    #[tactic(auto, unfolding(crate::specs::Header::table_of))]
     pub fn table(self, kind: Kind) -> Table
         ensures { result ≡ spec.table_of self kind }
     {
@@ -117,6 +114,7 @@ impl Header {
     }
 
     // Where a kind's index stands, behind the spec table or behind the content pages.
+    #[tactic(auto, unfolding(crate::specs::Header::index_at))]
     pub fn index_at(self, kind: Kind) -> usize
         ensures { result ≡ spec.index_at self kind }
     {
@@ -128,6 +126,7 @@ impl Header {
     }
 
     // Where a page's index entry stands.
+    #[tactic(auto, unfolding(crate::specs::Header::row_at))]
     pub fn row_at(self, kind: Kind, page: u32) -> usize
         ensures { result ≡ spec.row_at self kind page }
     {
@@ -135,6 +134,7 @@ impl Header {
     }
 
     // Where a page stands.
+    #[tactic(auto, unfolding(crate::specs::Header::page_offset))]
     pub fn page_at(self, kind: Kind, page: u32) -> usize
         ensures { result ≡ spec.page_offset self kind page }
     {
@@ -143,6 +143,7 @@ impl Header {
     }
 
     // Where a page ends.
+    #[tactic(auto, unfolding(crate::specs::Header::page_end))]
     pub fn page_end(self, kind: Kind, page: u32) -> usize
         ensures { result ≡ spec.page_end self kind page }
     {
@@ -150,6 +151,7 @@ impl Header {
     }
 
     // Where the parts end.
+    #[tactic(auto, unfolding(crate::specs::Header::end_of))]
     pub fn end(self) -> usize
         ensures { result ≡ spec.end_of self }
     {
@@ -158,21 +160,28 @@ impl Header {
 }
 
 // A page's first key, as its index entry has it.
+#[tactic(auto, unfolding(crate::specs::Header::first_key_at))]
 pub fn first_key(file: &[u8], h: Header, kind: Kind, page: u32) -> &[u8]
     ensures { result.now ≡ spec.first_key_at file.now h kind page }
 {
-    part(file, h.row_at(kind, page), h.table(kind).key_size as usize)
+    part(
+        file,
+        h.row_at(kind, page),
+        usize::from(h.table(kind).key_size),
+    )
 }
 
 // A page's MD5, as its index entry has it.
+#[tactic(auto, unfolding(crate::specs::Header::page_hash))]
 pub fn page_hash(file: &[u8], h: Header, kind: Kind, page: u32) -> &[u8]
     ensures { result.now ≡ spec.page_hash file.now h kind page }
 {
-    let key_size = h.table(kind).key_size as usize;
+    let key_size = usize::from(h.table(kind).key_size);
     part(file, h.row_at(kind, page) + key_size, HASH_SIZE)
 }
 
 // The bytes of a page.
+#[tactic(auto, unfolding(crate::specs::Header::page_of))]
 pub fn page_of(file: &[u8], h: Header, kind: Kind, page: u32) -> &[u8]
     ensures { result.now ≡ spec.page_of file.now h kind page }
 {
@@ -188,6 +197,7 @@ pub fn spec_table(file: &[u8], h: Header) -> &[u8]
 }
 
 // Whether the file begins as an encoding file does.
+#[tactic(auto, unfolding(crate::specs::Header::magic_right))]
 fn magic_right(file: &[u8]) -> bool
     ensures { result ≡ spec.magic_right file.now }
 {
@@ -197,6 +207,7 @@ fn magic_right(file: &[u8]) -> bool
     equal(part(file, 0, 2), b"EN")
 }
 
+#[tactic(auto, unfolding(crate::specs::Header::table_from))]
 fn read_table(file: &[u8], key_size_at: usize, page_kb_at: usize, pages_at: usize) -> Table
     ensures { result ≡ spec.table_from file.now key_size_at page_kb_at pages_at }
 {
@@ -208,6 +219,7 @@ fn read_table(file: &[u8], key_size_at: usize, page_kb_at: usize, pages_at: usiz
 }
 
 // What the header says.
+#[tactic(auto, unfolding(crate::specs::Header::header_of))]
 fn read_header(file: &[u8]) -> Header
     ensures { result ≡ spec.header_of file.now }
 {
@@ -229,13 +241,14 @@ fn read_header(file: &[u8]) -> Header
 }
 
 // Whether the fields of one kind lie in their ranges.
+#[tactic(auto, unfolding(crate::specs::Header::table_right))]
 fn table_right(t: Table) -> bool
     ensures { result ≡ spec.table_right t }
 {
     if !within(
-        t.key_size as u32,
-        LEAST_KEY_SIZE as u32,
-        MOST_KEY_SIZE as u32,
+        u32::from(t.key_size),
+        u32::from(LEAST_KEY_SIZE),
+        u32::from(MOST_KEY_SIZE),
     ) {
         return false;
     }
@@ -246,6 +259,7 @@ fn table_right(t: Table) -> bool
 }
 
 // Whether every field of the header lies in its range.
+#[tactic(auto, unfolding(crate::specs::Header::header_right))]
 fn header_right(file: &[u8], h: Header) -> bool
     ensures { result ≡ spec.header_right file.now h }
 {
@@ -266,28 +280,22 @@ fn header_right(file: &[u8], h: Header) -> bool
     h.spec_size != 0
 }
 
-fn refused(number: u32) -> Opened
-    ensures { spec.outcome result ≡ refusal number 0 }
-{
-    Opened::Refused(Refusal { number, place: 0 })
-}
-
 // Refusals 30 to 33, and what the header says.
-pub fn open(file: &[u8]) -> Opened
+pub fn open(file: &[u8]) -> Result<Header, Refusal>
     ensures { spec.outcome result ≡ spec.open_outcome file.now }
 {
     if !magic_right(file) {
-        return refused(NOT_ENCODING);
+        return Err(Reason::NotEncoding.at(0));
     }
     let h = read_header(file);
     if !header_right(file, h) {
-        return refused(ENCODING_HEADER);
+        return Err(Reason::EncodingHeader.at(0));
     }
     if file.len() < h.end() {
-        return refused(ENCODING_CUT);
+        return Err(Reason::EncodingCut.at(0));
     }
     if byte(file, h.index_at(Kind::Content) - 1) != 0 {
-        return refused(SPEC_TABLE_OPEN);
+        return Err(Reason::SpecTableOpen.at(0));
     }
-    Opened::Passed(h)
+    Ok(h)
 }

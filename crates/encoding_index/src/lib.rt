@@ -17,14 +17,12 @@ fn skip(file: &[u8], h: Header, kind: Kind, key: &[u8], from: u32) -> u32
         return from;
     }
     let sought = big(key, 0, 8);
-    let mut n = from;
-    while 0 < n {
-        if eight(file, h.row_at(kind, n - 1)) <= sought {
-            return n;
+    for i in (0..from).rev() {
+        if eight(file, h.row_at(kind, i)) <= sought {
+            return i + 1;
         }
-        n -= 1;
     }
-    n
+    0
 }
 
 // How many pages there are up to the highest-numbered one whose first key is not above a key; 0 where there is none.
@@ -32,6 +30,7 @@ pub fn pages_up_to(file: &[u8], h: Header, kind: Kind, key: &[u8]) -> u32
     ensures { result ≡ spec.pages_up_to file.now h kind key.now }
 {
     let mut n = h.table(kind).pages;
+    // A while loop: `skip` goes on by uneven steps.
     while 0 < n {
         n = skip(file, h, kind, key, n);
         if n == 0 {

@@ -1,5 +1,5 @@
 -- What a lookup tells stands inside the file, so that the part there is at the told place.
-use mathlib.Core.Path.{◌≡◌, refl, ap, ◌∙◌}
+use mathlib.Core.Path.{◌≡◌, refl, ap}
 use mathlib.Core.Bool.{Bool}
 use mathlib.Core.List.{List}
 use Prim.Native.Nat.{ℕ, zero, suc, ◌+◌, ◌≤◌, min}
@@ -16,15 +16,12 @@ use Rattle.encoding_header.specs.declared.Kind.TheVariants.{Content, Encoding}
 use Rattle.encoding_header.specs.declared.Header.{Header}
 use Rattle.encoding_header.specs.Header.{header_size, header_of, table_of, index_at, page_offset, page_end, end_of, spec_table, opening}
 use Rattle.encoding_header.proofs.Laws.{whole, page-end}
-use Rattle.encoding_page.specs.declared.Search.{Search}
-use Rattle.encoding_page.specs.declared.Search.TheVariants.{At, End}
 use Rattle.encoding_page.specs.Entries.{entry_size, spec_number_at, over_end}
 use Rattle.encoding_page.proofs.Laws.{searched-inside}
 use Rattle.encoding_index.specs.Chosen.{up_to, pages_up_to}
-use Rattle.encoding_lookup.specs.declared.Seek.{Seek}
-use Rattle.encoding_lookup.specs.declared.Seek.TheVariants.{Entry, Nowhere, Over}
-use Rattle.encoding_lookup.specs.Lookup.{page_seek, seek_on, seek, lookup_check, seek_told, content_told, content_lookup, told_value}
-use Rattle.encoding_lookup.specs.Lookup.{place_told, part_told, place_after, spec_string_at, encoding_told, encoding_lookup}
+use Rattle.std.specs.Prelude.{Result, Ok, Err, Some, None}
+use Rattle.encoding_lookup.specs.Lookup.{Seek, page_seek, seek_on, seek, lookup_check, seek_told, content_told, content_lookup, told_value}
+use Rattle.encoding_lookup.specs.Lookup.{place_told, place_after, spec_string_at, encoding_told, encoding_lookup}
 use Rattle.encoding_lookup.proofs.Laws.{nowhere-no-entry, over-no-entry}
 
 -- ---- an entry that the search of the chosen page tells
@@ -35,20 +32,20 @@ up-to-most above zero = omega arith
 up-to-most above (suc i) = by-test (above i) (λ t. rw t (omega (arith, up-to-most above i))) (λ t. rw t (omega arith))
 
 module _ (s : List ℕ) (h : Header) (kind : Kind) where
-  page-entry : (i : ℕ) (found : Search) (x : ℕ) → page_seek s h kind i found ≡ Entry x → found ≡ At x
+  page-entry : (i : ℕ) (found : Result ℕ ℕ) (x : ℕ) → page_seek s h kind i found ≡ Ok (Some x) → found ≡ Ok x
   unfolding page_seek
-  page-entry i (At at) x q = let same : at ≡ x = cc in ap At same
-  page-entry i (End end) x q =
+  page-entry i (Ok at) x q = let same : at ≡ x = cc in ap Ok same
+  page-entry i (Err end) x q =
       by-test (over_end s kind (page_end h kind i) end) (λ t. absurd (over-no-entry i x (rw t at q))) (λ t. absurd (nowhere-no-entry x (rw t at q)))
 
   module _ (sought : List ℕ) where
-    on-page-inside : (pages x : ℕ) → pages ≤ (table_of h kind).pages → seek_on s h kind sought pages ≡ Entry x → x + entry_size s h kind x ≤ end_of h
+    on-page-inside : (pages x : ℕ) → pages ≤ (table_of h kind).pages → seek_on s h kind sought pages ≡ Ok (Some x) → x + entry_size s h kind x ≤ end_of h
     unfolding seek_on page_end
     on-page-inside zero x l q = absurd (nowhere-no-entry x q)
     on-page-inside (suc i) x l q =
         omega (arith, searched-inside s h kind (page_end h kind i) sought (page_offset h kind i) x (page-entry i _ x q), page-end h kind i l)
 
-    pub seek-inside : (x : ℕ) → seek s h kind sought ≡ Entry x → x + entry_size s h kind x ≤ end_of h
+    pub seek-inside : (x : ℕ) → seek s h kind sought ≡ Ok (Some x) → x + entry_size s h kind x ≤ end_of h
     unfolding seek pages_up_to
     seek-inside x q = on-page-inside _ x (up-to-most _ _) q
 
@@ -57,11 +54,11 @@ module _ (s : List ℕ) (h : Header) (kind : Kind) where
 abbrev Inside : ℕ → Outcome → Type 0
 Inside n told = place_told told ≤ n
 
-seek-told-inside : (n : ℕ) (told : ℕ → Outcome) (v : Seek) → ((x : ℕ) → v ≡ Entry x → Inside n (told x)) → Inside n (seek_told told v)
-unfolding seek_told told_value
-seek-told-inside n told (Entry x) h = h x refl
-seek-told-inside n told Nowhere h = omega arith
-seek-told-inside n told (Over i) h = omega arith
+seek-told-inside : (n : ℕ) (told : ℕ → Outcome) (v : Seek) → ((x : ℕ) → v ≡ Ok (Some x) → Inside n (told x)) → Inside n (seek_told told v)
+unfolding told_value
+seek-told-inside n told (Ok (Some x)) h = h x refl
+seek-told-inside n told (Ok None) h = omega arith
+seek-told-inside n told (Err r) h = omega arith
 
 after-inside : (n : ℕ) (k : Check) (told : Outcome) → (k ≡ silent → Inside n told) → Inside n (after k told)
 unfolding after told_value
@@ -70,11 +67,10 @@ after-inside n (refused number place) told h = omega arith
 
 module _ (s key : List ℕ) where
   opened : (kind : Kind) → lookup_check s kind key ≡ silent → opening s ≡ silent
-  unfolding lookup_check
   opened kind e = first-left (opening s) _ e
 
   pub content-inside : place_told (content_lookup s key) ≤ length s
-  unfolding content_lookup entry_size told_value
+  unfolding entry_size told_value
   content-inside =
       let h : Header = header_of s in
       after-inside (length s) (lookup_check s Content key) _
@@ -82,7 +78,7 @@ module _ (s key : List ℕ) where
       (λ x v. omega (arith, seek-inside s h Content key x v, (whole s (opened Content k)).inside)))
 
   pub encoding-inside : place_told (encoding_lookup s key) ≤ length s
-  unfolding encoding_lookup encoding_told end_of index_at told_value
+  unfolding end_of index_at told_value
   encoding-inside =
       let h : Header = header_of s in
       after-inside (length s) (lookup_check s Encoding key) _
@@ -92,15 +88,11 @@ module _ (s key : List ℕ) where
       let table = part_at-length s header_size h.spec_size in
       omega (arith, start-inside (spec_table s h) (spec_number_at s h x), table, (whole s (opened Encoding k)).inside))))
 
--- the part that is returned, with its address, by what the lookup tells
-pub part-told : (s part : List ℕ) (v told : Outcome) (from at : ℕ) → v ≡ told → place_told told ≤ length s → part ≡ part_told s v
-    → at ≡ from + min (place_told v) (length s) → (part ≡ part_told s told) × (at ≡ from + place_told told)
-part-told s part v told from at e inside p q = (p ∙ ap (part_told s) e, omega (arith, q, ap place_told e))
-
 -- ---- the place of the string with a number
 
 module _ (s : List ℕ) (n : ℕ) where
-  pub spec-place : opening s ≡ silent → (table : List ℕ) → table ≡ spec_table s (header_of s) → min header_size (length s) + place_of table n ≡ spec_string_at s n
+  pub spec-place : opening s ≡ silent → (table : List ℕ) → table ≡ spec_table s (header_of s)
+      → min header_size (length s) + place_of table n ≡ spec_string_at s n
   unfolding spec_string_at place_after end_of index_at
   spec-place begun table t =
       let is = ap (λ k. place_after k (header_size + place_of (spec_table s (header_of s)) n)) begun in

@@ -1,11 +1,11 @@
 -- Laws of a page's entries, one over both kinds.
 use mathlib.Core.Path.{◌≡◌, refl, sym, ap, ◌∙◌}
-use mathlib.Core.Bool.{Bool, true, false, not, ◌&&◌, ◌||◌, cond, false≢true}
+use mathlib.Core.Bool.{Bool, true, false, ◌&&◌, ◌||◌, cond, false≢true}
 use mathlib.Core.List.{List, [], ◌∷◌}
 use Prim.Native.Nat.{ℕ, zero, suc, ◌+◌, ◌-◌, ◌≤◌, ◌<◌}
 use native.Mathlib.Nat.{add-zero, le_refl}
 use native.Mathlib.Omega.{arith}
-use lib.Dec.{ltb, eqb}
+use lib.Dec.{eqb}
 use borrow.Author.Tests.{lt-ltb, le-ltb, ltb-false, eq-eqb, ne_eqb}
 use Rattle.parts.specs.Part.{byte_at, part_at, same_bytes, all_zero}
 use Rattle.parts.proofs.Laws.{by-test}
@@ -14,9 +14,9 @@ use Rattle.encoding_header.specs.declared.Kind.TheVariants.{Content, Encoding}
 use Rattle.encoding_header.specs.declared.Header.{Header}
 use Rattle.encoding_header.specs.Header.{table_of}
 use Rattle.encoding_page.specs.declared.Span.{Span}
-use Rattle.encoding_page.specs.declared.Search.TheVariants.{At, End}
+use Rattle.std.specs.Prelude.{Result, Ok, Err}
 use Rattle.encoding_page.specs.Entries.{key_offset, size_of_key, entry_size, key_at, spec_number_at, no_spec_number, padding, ended, Walk, turn, walk_by, walk_from}
-use Rattle.encoding_page.specs.Entries.{head_or, next_entry, rises_to, rising, last_key_before, all, spec_known, starts_with, over_end, search_in, searched}
+use Rattle.encoding_page.specs.Entries.{head_or, next_entry, rises_to, rising, last_key_before, all, spec_known, starts_with, search_in, searched}
 use Rattle.encoding_page.specs.Entries.{span_of, key_span, last_span}
 
 -- ---- tests
@@ -60,41 +60,19 @@ module _ (s : List ℕ) (h : Header) where
   entry-inside kind e at g = omega (arith, size-some kind at, entry-left kind e at g)
 
   -- the test that is left where enough bytes are left
-  pub content-ended : (kind : Kind) (e at count : ℕ) → kind ≡ Content → entry_size s h kind at ≤ e - at → count ≡ byte_at s at → eqb count 0 ≡ ended s h kind e at
+  pub content-ended : (kind : Kind) (e at count : ℕ) → kind ≡ Content → entry_size s h kind at ≤ e - at → count ≡ byte_at s at
+      → eqb count 0 ≡ ended s h kind e at
   unfolding ended
   content-ended Content e at count k l b = rw (le-ltb _ _ l, b)
   content-ended Encoding e at count k l b = absurd (kinds-differ (sym k))
 
-  pub encoding-ended : (kind : Kind) (e at : ℕ) → kind ≡ Encoding → entry_size s h kind at ≤ e - at → false ≡ ended s h kind e at
-  unfolding ended
-  encoding-ended Content e at k l = absurd (kinds-differ k)
-  encoding-ended Encoding e at k l = rw (le-ltb _ _ l)
-
--- ---- padding: by the spec number, then the key
+-- ---- padding: a key of zeros
 
 module _ (s : List ℕ) (h : Header) (kind : Kind) (at number : ℕ) (k : kind ≡ Encoding) (n : number ≡ spec_number_at s h at) where
-  pub padding-no-spec : number ≡ no_spec_number → true ≡ padding s h kind at
-  unfolding padding
-  padding-no-spec e = rw (k, ← n, eq-eqb number no_spec_number e)
-
-  pub padding-other : (number ≡ no_spec_number → ⊥) → (number ≡ 0 → ⊥) → false ≡ padding s h kind at
-  unfolding padding
-  padding-other e z = rw (k, ← n, ne_eqb number no_spec_number e, ne_eqb number 0 z)
-
-  pub padding-zero : (number ≡ no_spec_number → ⊥) → number ≡ 0 → (zeros : Bool) → zeros ≡ all_zero (part_at s at h.encoding.key_size) → zeros ≡ padding s h kind at
+  pub padding-zero : (number ≡ no_spec_number → ⊥) → number ≡ 0 → (zeros : Bool) → zeros ≡ all_zero (part_at s at h.encoding.key_size)
+      → zeros ≡ padding s h kind at
   unfolding padding key_at key_offset table_of
   padding-zero e z zeros q = rw (k, ← n, ne_eqb number no_spec_number e, eq-eqb number 0 z, add-zero) q
-
--- ---- an entry over the page's end
-
-module _ (s : List ℕ) where
-  pub content-over : (kind : Kind) (e at count : ℕ) → kind ≡ Content → at < e → count ≡ byte_at s at → not (eqb count 0) ≡ over_end s kind e at
-  unfolding over_end
-  content-over kind e at count k l b = rw (k, lt-ltb at e l, b)
-
-  pub content-full : (kind : Kind) (e at : ℕ) → kind ≡ Content → e ≤ at → ltb at e ≡ over_end s kind e at
-  unfolding over_end
-  content-full kind e at k l = rw (k, le-ltb at e l)
 
 -- ---- the walk
 
@@ -189,7 +167,8 @@ pub record Reading (s : List ℕ) (h : Header) (kind : Kind) (e from : ℕ) (bef
   pub order : rising (key_at s h kind) (span_of s before) (walk_from s h kind e from).entries
       ≡ (rises && rising (key_at s h kind) (span_of s last) (walk_from s h kind e at).entries)
   pub last_key : last_span (key_span h kind) before (walk_from s h kind e from).entries ≡ last_span (key_span h kind) last (walk_from s h kind e at).entries
-  pub numbers : all (spec_known s h kind specs) (walk_from s h kind e from).entries ≡ (known && all (spec_known s h kind specs) (walk_from s h kind e at).entries)
+  pub numbers : all (spec_known s h kind specs) (walk_from s h kind e from).entries
+      ≡ (known && all (spec_known s h kind specs) (walk_from s h kind e at).entries)
   pub real : ended s h kind e at ≡ false → padding s h kind at ≡ false
 
 and_assoc : (a b c : Bool) → (a && (b && c)) ≡ ((a && b) && c)
@@ -284,12 +263,12 @@ module _ (s : List ℕ) (h : Header) (kind : Kind) (e from : ℕ) (sought : List
   module _ (at : ℕ) (r : Searching s h kind e from sought at) where
     entry-searched : ended s h kind e at ≡ false
         → searched s h kind sought (walk_from s h kind e from)
-        ≡ cond (same_bytes (key_at s h kind at) sought) (At at) (searched s h kind sought (walk_from s h kind e (at + entry_size s h kind at)))
+        ≡ cond (same_bytes (key_at s h kind at) sought) (Ok at) (searched s h kind sought (walk_from s h kind e (at + entry_size s h kind at)))
     unfolding search_in
     entry-searched t = r.same ∙ ap (searched s h kind sought) (walk-entry s h kind e at t (r.real t))
 
     pub search-found : (key : List ℕ) → ended s h kind e at ≡ false → key ≡ key_at s h kind at → same_bytes key sought ≡ true
-        → At at ≡ searched s h kind sought (walk_from s h kind e from)
+        → Ok at ≡ searched s h kind sought (walk_from s h kind e from)
     search-found key t k y = sym (entry-searched t ∙ rw (← k, y))
 
     pub searching-next : (to : ℕ) (key : List ℕ) → ended s h kind e at ≡ false → key ≡ key_at s h kind at → same_bytes key sought ≡ false
@@ -298,20 +277,21 @@ module _ (s : List ℕ) (h : Header) (kind : Kind) (e from : ℕ) (sought : List
         let n = next-is s h kind e (at + entry_size s h kind at) in
         rw q (record { same = entry-searched t ∙ rw (← k, y) (ap (searched s h kind sought) n.same); real = n.real })
 
-    pub search-end : ended s h kind e at ≡ true → End at ≡ searched s h kind sought (walk_from s h kind e from)
+    pub search-end : ended s h kind e at ≡ true → Err at ≡ searched s h kind sought (walk_from s h kind e from)
     unfolding search_in
     search-end t = sym (r.same ∙ ap (searched s h kind sought) (walk-ended s h kind e at t))
 
 -- an entry that a search tells
-pub found_inside : (s : List ℕ) (h : Header) (kind : Kind) (e at : ℕ) → ended s h kind e at ≡ false → (x : ℕ) → At at ≡ At x → x + entry_size s h kind x ≤ e
+pub found_inside : (s : List ℕ) (h : Header) (kind : Kind) (e at : ℕ) → ended s h kind e at ≡ false → (x : ℕ)
+    → ◌≡◌ {A = Result ℕ ℕ} (Ok at) (Ok x) → x + entry_size s h kind x ≤ e
 found_inside s h kind e at t x q = let same : at ≡ x = cc in rw (← same) (entry-inside s h kind e at t)
 
-pub end-no-entry : (at x : ℕ) → End at ≡ At x → ⊥
+pub end-no-entry : (at x : ℕ) → ◌≡◌ {A = Result ℕ ℕ} (Err at) (Ok x) → ⊥
 end-no-entry at x q = let z : ◌≡◌ {A = ℕ} 0 1 = cc in omega arith
 
 -- the entry that a search of a page tells ends within the page
 module _ (s : List ℕ) (h : Header) (kind : Kind) (e : ℕ) (sought : List ℕ) where
-  search-by : (turns at x : ℕ) → searched s h kind sought (walk_by turns s h kind e at) ≡ At x → x + entry_size s h kind x ≤ e
+  search-by : (turns at x : ℕ) → searched s h kind sought (walk_by turns s h kind e at) ≡ Ok x → x + entry_size s h kind x ≤ e
   unfolding walk_by turn search_in
   search-by zero at x q = absurd (end-no-entry at x q)
   search-by (suc turns) at x q =
@@ -321,7 +301,7 @@ module _ (s : List ℕ) (h : Header) (kind : Kind) (e : ℕ) (sought : List ℕ)
       (λ y. found_inside s h kind e at t x (rw (t, p, y) at q))
       (λ y. search-by turns _ x (rw (t, p, y) at q))))
 
-  pub searched-inside : (at x : ℕ) → searched s h kind sought (walk_from s h kind e at) ≡ At x → x + entry_size s h kind x ≤ e
+  pub searched-inside : (at x : ℕ) → searched s h kind sought (walk_from s h kind e at) ≡ Ok x → x + entry_size s h kind x ≤ e
   unfolding walk_from
   searched-inside at x q = search-by _ at x q
 

@@ -1,6 +1,6 @@
 -- The entries of a page of an encoding file s with header h: rules E4 to E12. The page ends before the offset e, and an entry
 -- is told by its offset, both in s.
-use Rattle.std.specs.Prelude.{Bool, true, false, not, ◌&&◌, ◌||◌, cond, List, [], ◌∷◌, ℕ, zero, suc, ◌+◌, ◌-◌, ◌*◌, ltb, eqb}
+use Rattle.std.specs.Prelude.{Bool, true, false, not, ◌&&◌, ◌||◌, cond, List, [], ◌∷◌, ℕ, zero, suc, ◌+◌, ◌-◌, ◌*◌, ltb, eqb, Result, Ok, Err}
 use Rattle.parts.specs.Part.{byte_at, part_at, same_bytes, all_zero, parts_from}
 use Rattle.numbers.specs.Number.{big_at}
 use Rattle.key.specs.Order.{compared, is_below}
@@ -9,8 +9,6 @@ use Rattle.encoding_header.specs.declared.Kind.TheVariants.{Content, Encoding}
 use Rattle.encoding_header.specs.declared.Header.{Header}
 use Rattle.encoding_header.specs.Header.{table_of, page_offset, page_end}
 use Rattle.encoding_page.specs.declared.Span.{Span}
-use Rattle.encoding_page.specs.declared.Search.{Search}
-use Rattle.encoding_page.specs.declared.Search.TheVariants.{At, End}
 
 -- ---- an entry
 
@@ -129,11 +127,11 @@ over_end s Content e end = ltb end e && not (eqb (byte_at s end) 0)
 over_end s Encoding e end = false
 
 -- The first entry whose key is the sought one, or where the entries end (rule E20).
-unfoldable pub search_in : (ℕ → List ℕ) → List ℕ → List ℕ → ℕ → Search
-search_in key sought [] end = End end
-search_in key sought (at ∷ entries) end = cond (same_bytes (key at) sought) (At at) (search_in key sought entries end)
+unfoldable pub search_in : (ℕ → List ℕ) → List ℕ → List ℕ → ℕ → Result ℕ ℕ
+search_in key sought [] end = Err end
+search_in key sought (at ∷ entries) end = cond (same_bytes (key at) sought) (Ok at) (search_in key sought entries end)
 
-abbrev pub searched : List ℕ → Header → Kind → List ℕ → Walk → Search
+abbrev pub searched : List ℕ → Header → Kind → List ℕ → Walk → Result ℕ ℕ
 searched s h kind sought w = search_in (key_at s h kind) sought w.entries w.end
 
 -- ---- a key by its place

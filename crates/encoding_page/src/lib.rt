@@ -2,13 +2,12 @@
 
 // The entries of a page of an encoding file, of either kind. A page is told by where it ends in the file, and an entry by its
 // offset in the file. specs/Entries.antt has the names of the constants as that language writes them.
-ghost use Rattle.std.specs.Prelude.{◌≡◌, ◌&&◌, ℕ, ◌+◌, ◌≤◌, ◌<◌, ◌^◌};
-ghost use Rattle.parts.specs.Part.{part_at};
+ghost use Rattle.std.specs.Prelude.{◌≡◌, ◌+◌, ◌≤◌, ◌<◌, ◌^◌, IfOk};
 ghost use Rattle.encoding_page.specs.Entries as spec;
 
 use encoding_header::{Header, Kind};
 use numbers::big;
-use parts::{all_zero, byte, part, rest};
+use parts::{all_zero, byte, part};
 
 // A content entry: count, decoded size, content key, encoding keys.
 pub const COUNT_WIDTH: usize = 1;
@@ -38,14 +37,8 @@ pub struct Walked {
     pub specs_known: bool,
 }
 
-// What the search for a key among a page's entries tells: the entry that has it, or where the entries end.
-#[derive(Clone, Copy)]
-pub enum Search {
-    At(usize),
-    End(usize),
-}
-
 // Where the key stands in an entry.
+#[tactic(auto, unfolding(crate::specs::Entries::key_offset))]
 fn key_offset(kind: Kind) -> usize
     ensures { result ≡ spec.key_offset kind }
 {
@@ -63,23 +56,25 @@ fn key_size(h: Header, kind: Kind) -> u8
 }
 
 // The bytes of an entry.
+#[tactic(auto, unfolding(crate::specs::Entries::entry_size))]
 pub fn entry_size(file: &[u8], h: Header, kind: Kind, at: usize) -> usize
     ensures { result ≡ spec.entry_size file.now h kind at }
 {
     match kind {
         Kind::Content => {
-            let keys = byte(file, at) as usize * h.encoding.key_size as usize;
-            COUNT_WIDTH + SIZE_WIDTH + h.content.key_size as usize + keys
+            let keys = usize::from(byte(file, at)) * usize::from(h.encoding.key_size);
+            COUNT_WIDTH + SIZE_WIDTH + usize::from(h.content.key_size) + keys
         }
-        Kind::Encoding => h.encoding.key_size as usize + SPEC_WIDTH + SIZE_WIDTH,
+        Kind::Encoding => usize::from(h.encoding.key_size) + SPEC_WIDTH + SIZE_WIDTH,
     }
 }
 
 // Whether a page's entries end at an offset.
+#[tactic(auto, unfolding(crate::specs::Entries::ended))]
 pub fn ended(file: &[u8], h: Header, kind: Kind, end: usize, at: usize) -> bool
     ensures { result ≡ spec.ended file.now h kind end at }
 {
-    if rest(end, at) < entry_size(file, h, kind, at) {
+    if end.saturating_sub(at) < entry_size(file, h, kind, at) {
         return true;
     }
     match kind {
@@ -100,14 +95,16 @@ fn key_span(h: Header, kind: Kind, at: usize) -> Span
 }
 
 // The spec number of an encoding entry.
+#[tactic(auto, unfolding(crate::specs::Entries::entry_size, crate::specs::Entries::spec_number_at))]
 fn spec_number(file: &[u8], h: Header, at: usize) -> u64
     requires { at + spec.entry_size file.now h Kind.Encoding at < 2 ^ 64 }
     ensures { result ≡ spec.spec_number_at file.now h at }
 {
-    big(file, at + h.encoding.key_size as usize, SPEC_WIDTH)
+    big(file, at + usize::from(h.encoding.key_size), SPEC_WIDTH)
 }
 
 // Whether an entry is padding.
+#[tactic(auto, unfolding(crate::specs::Entries::padding))]
 fn padding(file: &[u8], h: Header, kind: Kind, at: usize) -> bool
     requires { at + spec.entry_size file.now h kind at < 2 ^ 64 }
     ensures { result ≡ spec.padding file.now h kind at }
@@ -122,7 +119,7 @@ fn padding(file: &[u8], h: Header, kind: Kind, at: usize) -> bool
     if number != 0 {
         return false;
     }
-    all_zero(part(file, at, h.encoding.key_size as usize))
+    all_zero(part(file, at, usize::from(h.encoding.key_size)))
 }
 
 // The first entry from an offset on, or where the entries end.
@@ -150,11 +147,12 @@ pub fn starts_with(file: &[u8], h: Header, kind: Kind, end: usize, from: usize, 
     }
     key::same(
         key,
-        part(file, at + key_offset(kind), key_size(h, kind) as usize),
+        part(file, at + key_offset(kind), usize::from(key_size(h, kind))),
     )
 }
 
 // Whether an entry is over a page's end, where the page's entries end at an offset.
+#[tactic(auto, unfolding(crate::specs::Entries::over_end))]
 pub fn over(file: &[u8], kind: Kind, end: usize, at: usize) -> bool
     ensures { result ≡ spec.over_end file.now kind end at }
 {
@@ -165,6 +163,7 @@ pub fn over(file: &[u8], kind: Kind, end: usize, at: usize) -> bool
 }
 
 // Whether an encoding entry's spec number is below the number of specs.
+#[tactic(auto, unfolding(crate::specs::Entries::spec_known))]
 fn spec_known(file: &[u8], h: Header, kind: Kind, specs: usize, at: usize) -> bool
     requires { at + spec.entry_size file.now h kind at < 2 ^ 64 }
     ensures { result ≡ spec.spec_known file.now h kind specs at }
@@ -180,15 +179,9 @@ fn key_rises(file: &[u8], a: Span, b: Span) -> bool
     ensures { result ≡ spec.rises_to (spec.span_of file.now a) (spec.span_of file.now b) }
 {
     key::rises(
-        part(file, a.at, a.size as usize),
-        part(file, b.at, b.size as usize),
+        part(file, a.at, usize::from(a.size)),
+        part(file, b.at, usize::from(b.size)),
     )
-}
-
-fn both(a: bool, b: bool) -> bool
-    ensures { result ≡ (a && b) }
-{
-    if a { b } else { false }
 }
 
 // Reads a page's entries from an offset on, after a key that stands before them.
@@ -215,8 +208,8 @@ pub fn walk(
     let mut at = next(file, h, kind, end, from);
     while !ended(file, h, kind, end, at) {
         let key = key_span(h, kind, at);
-        rises = both(rises, key_rises(file, last, key));
-        specs_known = both(specs_known, spec_known(file, h, kind, specs, at));
+        rises &= key_rises(file, last, key);
+        specs_known &= spec_known(file, h, kind, specs, at);
         last = key;
         at = next(file, h, kind, end, at + entry_size(file, h, kind, at));
     }
@@ -228,18 +221,25 @@ pub fn walk(
     }
 }
 
-// Searches a page's entries for a key, one after the other.
-pub fn find(file: &[u8], h: Header, kind: Kind, end: usize, from: usize, key: &[u8]) -> Search
+// Searches a page's entries for a key, one after the other: the entry that has it, or where the entries end.
+pub fn find(
+    file: &[u8],
+    h: Header,
+    kind: Kind,
+    end: usize,
+    from: usize,
+    key: &[u8],
+) -> Result<usize, usize>
     ensures value { result ≡ spec.searched file.now h kind key.now (spec.walk_from file.now h kind end from) }
-    ensures by_index { (at : ℕ) → result ≡ Search.At at → at + spec.entry_size file.now h kind at ≤ end }
+    ensures by_index { IfOk result (λ at. at + spec.entry_size file.now h kind at ≤ end) }
 {
-    let size = key_size(h, kind) as usize;
+    let size = usize::from(key_size(h, kind));
     let mut at = next(file, h, kind, end, from);
     while !ended(file, h, kind, end, at) {
         if key::same(part(file, at + key_offset(kind), size), key) {
-            return Search::At(at);
+            return Ok(at);
         }
         at = next(file, h, kind, end, at + entry_size(file, h, kind, at));
     }
-    Search::End(at)
+    Err(at)
 }

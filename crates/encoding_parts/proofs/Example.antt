@@ -12,18 +12,18 @@ use Rattle.refusal.specs.Check.{silent, refused_if, first, first_from}
 use Rattle.text.specs.Text.{ascii}
 use Rattle.spec_table.specs.Specs.{run_of, count_of, start_of, before_zero, length_at}
 use Rattle.encoding_header.specs.Header.{table_from, header_of, table_of, row_size, page_size, index_size, table_size, index_at, row_at, page_offset}
-use Rattle.encoding_header.specs.Header.{page_end, end_of, first_key_at, page_hash, page_of, magic_right, table_right, header_right, opening}
+use Rattle.encoding_header.specs.Header.{page_end, end_of, first_key_at, page_hash, page_of, magic_right, table_right, header_right}
 use Rattle.encoding_page.specs.Entries.{key_offset, entry_size, key_at, spec_number_at, padding, ended, turn, walk_by, entries_of, all_entries}
 use Rattle.encoding_page.specs.Entries.{walk_from, rising, last_key_before, all, spec_known, starts_with, over_end}
 use Rattle.encoding.specs.Check.{key_before, specs_of, hash_right, entry_over, first_key_right}
-use Rattle.encoding.specs.Check.{keys_rise, all_specs_known, check_in_order, page_check, pages_check, full_check}
+use Rattle.encoding.specs.Check.{keys_rise, all_specs_known, page_check, pages_check, full_check}
 use Rattle.encoding_agreement.specs.Plain.{first_with, plain_reading, plain_told, content_values, plain_content, encoding_values, plain_encoding}
 use Rattle.encoding_parts.specs.File.{specs, header, content_entries, first_entries, last_entry, content_index, encoding_index, encoding_file, Example}
 
 passes : full_check encoding_file ≡ silent
-unfolding full_check pages_check page_check check_in_order hash_right entry_over first_key_right keys_rise all_specs_known specs_of key_before
+unfolding pages_check page_check hash_right entry_over first_key_right keys_rise all_specs_known specs_of key_before
     entries_of key_offset entry_size key_at spec_number_at padding ended turn walk_by walk_from rising last_key_before all spec_known starts_with
-    over_end opening header_right table_right magic_right table_from header_of table_of row_size page_size index_size table_size index_at
+    over_end header_right table_right magic_right table_from header_of table_of row_size page_size index_size table_size index_at
     row_at page_offset page_end end_of first_key_at page_hash page_of run_of count_of ascii refused_if first first_from big_at within same_bytes
     all_zero compared decided addends shifts mixed word_number turned step steps word words_of sum block blocks little_bytes
     md5_padding initial digest_of md5 encoding_file

@@ -6,13 +6,11 @@ ghost use Rattle.std.specs.Prelude.{◌≡◌};
 ghost use Rattle.parts.specs.Part.{overlay};
 ghost use Rattle.encoding_parts.specs.File.{first_entries, last_entry, encoding_file};
 
-use encoding_header::Opened;
 use encoding_lookup::{
-    ContentFound, EncodingFound, SpecFound, encoding_keys, encoding_spec, find_content,
-    find_encoding, find_spec, spec_string,
+    encoding_keys, encoding_spec, find_content, find_encoding, find_spec, spec_string,
 };
 use parts::{copy, part};
-use refusal::{Refusal, Verdict};
+use refusal::Refusal;
 use std::io;
 use std::io::Write;
 use text::put_hex;
@@ -70,10 +68,6 @@ fn put(out: &mut impl Write, text: &[u8]) -> io::Result<()> {
     out.write_all(text)
 }
 
-fn put_number(out: &mut impl Write, n: usize) -> io::Result<()> {
-    write!(out, "{n}")
-}
-
 // Up to 32 bytes in hex.
 fn put_bytes(out: &mut impl Write, bytes: &[u8]) -> io::Result<()> {
     let mut digits = [0u8; 64];
@@ -82,17 +76,13 @@ fn put_bytes(out: &mut impl Write, bytes: &[u8]) -> io::Result<()> {
 }
 
 fn put_place(out: &mut impl Write, at: usize, length: usize) -> io::Result<()> {
-    put(out, b" found at ")?;
-    put_number(out, at)?;
-    put(out, b" length ")?;
-    put_number(out, length)
+    write!(out, " found at {at} length {length}")
 }
 
 fn put_refusal(out: &mut impl Write, r: Refusal) -> io::Result<()> {
-    put(out, b" refused ")?;
-    put_number(out, r.number as usize)?;
-    put(out, b" ")?;
-    put_number(out, r.place)
+    let number = r.reason.number();
+    let place = r.place;
+    write!(out, " refused {number} {place}")
 }
 
 // The part that was returned.
@@ -106,9 +96,9 @@ fn content_line(out: &mut impl Write, file: &[u8], key: &[u8]) -> io::Result<()>
     put(out, b"content key ")?;
     put_bytes(out, key)?;
     match find_content(file, key) {
-        ContentFound::Found(c) => put_place(out, c.at, c.length)?,
-        ContentFound::Absent => put(out, b" absent")?,
-        ContentFound::Refused(r) => put_refusal(out, r)?,
+        Ok(Some(c)) => put_place(out, c.at, c.length)?,
+        Ok(None) => put(out, b" absent")?,
+        Err(r) => put_refusal(out, r)?,
     }
     put_part(out, encoding_keys(file, key))
 }
@@ -117,28 +107,25 @@ fn encoding_line(out: &mut impl Write, file: &[u8], key: &[u8]) -> io::Result<()
     put(out, b"encoding key ")?;
     put_bytes(out, key)?;
     match find_encoding(file, key) {
-        EncodingFound::Found(e) => put_place(out, e.at, e.length)?,
-        EncodingFound::Absent => put(out, b" absent")?,
-        EncodingFound::Refused(r) => put_refusal(out, r)?,
+        Ok(Some(e)) => put_place(out, e.at, e.length)?,
+        Ok(None) => put(out, b" absent")?,
+        Err(r) => put_refusal(out, r)?,
     }
     put_part(out, encoding_spec(file, key))
 }
 
 fn spec_line(out: &mut impl Write, file: &[u8], number: u32) -> io::Result<()> {
-    put(out, b"spec ")?;
-    put_number(out, number as usize)?;
+    write!(out, "spec {number}")?;
     match find_spec(file, number) {
-        SpecFound::Found(s) => put_place(out, s.at, s.length)?,
-        SpecFound::Refused(r) => put_refusal(out, r)?,
+        Ok(s) => put_place(out, s.at, s.length)?,
+        Err(r) => put_refusal(out, r)?,
     }
     put_part(out, spec_string(file, number))
 }
 
 fn string_line(out: &mut impl Write, table: &[u8], number: u32) -> io::Result<()> {
-    put(out, b"string ")?;
-    put_number(out, number as usize)?;
-    put(out, b" at ")?;
-    put_number(out, spec_table::start(table, number))?;
+    let at = spec_table::start(table, number);
+    write!(out, "string {number} at {at}")?;
     put_part(out, spec_table::string(table, number))
 }
 
@@ -155,19 +142,18 @@ fn keys(out: &mut impl Write, file: &[u8]) -> io::Result<()> {
 }
 
 fn specs(out: &mut impl Write, file: &[u8]) -> io::Result<()> {
-    spec_line(out, file, 0)?;
-    spec_line(out, file, 1)?;
-    spec_line(out, file, 2)?;
-    spec_line(out, file, 3)
+    for number in 0..4 {
+        spec_line(out, file, number)?;
+    }
+    Ok(())
 }
 
 fn strings(out: &mut impl Write, file: &[u8]) -> io::Result<()> {
-    if let Opened::Passed(h) = encoding_header::open(file) {
+    if let Ok(h) = encoding_header::open(file) {
         let table = encoding_header::spec_table(file, h);
-        string_line(out, table, 0)?;
-        string_line(out, table, 1)?;
-        string_line(out, table, 2)?;
-        string_line(out, table, 3)?;
+        for number in 0..4 {
+            string_line(out, table, number)?;
+        }
     }
     Ok(())
 }
@@ -176,8 +162,8 @@ fn main(rt: HostRuntime) -> io::Result<()> {
     let mut out = io::writer(&rt);
     let file = encoding_file();
     match encoding::check(&file) {
-        Verdict::Passed => put(&mut out, b"passed\n")?,
-        Verdict::Refused(_) => put(&mut out, b"refused\n")?,
+        Ok(()) => put(&mut out, b"passed\n")?,
+        Err(_) => put(&mut out, b"refused\n")?,
     }
     keys(&mut out, &file)?;
     specs(&mut out, &file)?;

@@ -65,19 +65,18 @@ module _ (s key : List ℕ) (e : content_check s key ≡ silent) where
   h = header_of s
 
   after-opening : first (envelope_key_check s key) (chunks_check s h) ≡ silent
-  unfolding content_check
   after-opening = first-right (opening s) (first (envelope_key_check s key) (chunks_check s h)) e
 
   chunk-silent : (i : ℕ) → i < chunk_count h → chunk_check s h i ≡ silent
   unfolding chunks_check
-  chunk-silent i l = simp zero-add at (from_each (chunk_check s h) 0 (chunk_count h) (first-right (envelope_key_check s key) (chunks_check s h) after-opening) i l)
+  chunk-silent i l =
+      let chunks = first-right (envelope_key_check s key) (chunks_check s h) after-opening in
+      simp zero-add at (from_each (chunk_check s h) 0 (chunk_count h) chunks i l)
 
   rest-silent : (i : ℕ) → i < chunk_count h → first (mode_check s h i) (decoded_check s h i) ≡ silent
-  unfolding chunk_check
   rest-silent i l = first-right (hash_check s h i) (first (mode_check s h i) (decoded_check s h i)) (chunk-silent i l)
 
   key-same : envelope_key_of s ≡ key
-  unfolding envelope_key_check
   key-same =
       let keyed = first-left (envelope_key_check s key) (chunks_check s h) after-opening in
       let last = first-right (limit_check s h) (refused_if (not (same_bytes (envelope_key_of s) key)) envelope_key 0)
@@ -85,7 +84,6 @@ module _ (s key : List ℕ) (e : content_check s key ≡ silent) where
       same_bytes-eq (envelope_key_of s) key (not-false _ (silent-test (not (same_bytes (envelope_key_of s) key)) envelope_key 0 last))
 
   mode-right : (i : ℕ) → i < chunk_count h → mode_of s h i ≡ plain_mode
-  unfolding mode_check
   mode-right i l =
       let mode = first-left (mode_check s h i) (decoded_check s h i) (rest-silent i l) in
       eqb-true _ _ (not-false _ (silent-test (not (eqb (mode_of s h i) plain_mode)) chunk_mode i mode))
@@ -132,13 +130,11 @@ module _ (s key : List ℕ) (e : content_check s key ≡ silent) where
     of-table test f = not-false test (ap (λ t. t && not test) (sym table) ∙ f)
 
     hash-right : (i : ℕ) → i < chunk_count h → md5 (chunk_of s h i) ≡ chunk_hash_at s i
-    unfolding chunk_check hash_check
     hash-right i l =
         let hash = first-left (hash_check s h i) (first (mode_check s h i) (decoded_check s h i)) (chunk-silent i l) in
         same_bytes-eq _ _ (of-table (same_bytes (md5 (chunk_of s h i)) (chunk_hash_at s i)) (silent-test _ chunk_hash i hash))
 
     size-right : (i : ℕ) → i < chunk_count h → decoded_size_at s i ≡ encoded_size s h i - 1
-    unfolding decoded_check
     size-right i l =
         let size = first-right (mode_check s h i) (decoded_check s h i) (rest-silent i l) in
         eqb-true _ _ (of-table (eqb (decoded_size_at s i) (encoded_size s h i - 1)) (silent-test _ decoded_size i size))

@@ -8,39 +8,42 @@ ghost use Rattle.envelope.specs.Envelope as spec;
 
 use envelope_header::{Header, chunk_hash, decoded_size};
 use md5_two::digests;
-use parts::{byte, copy, equal, part, rest};
-use refusal::{CHUNK_HASH, CHUNK_MODE, DECODED_SIZE, Verdict, refuse};
+use parts::{byte, copy, equal, part};
+use refusal::{Reason, Refusal};
 
 // N: the rest of the chunk is its content.
 const PLAIN_MODE: u8 = 78;
 
 // The mode of a chunk that stands at a place: 24.
-fn check_mode(file: &[u8], h: Header, chunk: u32, at: usize) -> Verdict
+fn check_mode(file: &[u8], h: Header, chunk: u32, at: usize) -> Result<(), Refusal>
     requires { at ≡ header.chunk_at file.now h chunk }
     ensures { check_of result ≡ spec.mode_check file.now h chunk }
 {
     if byte(file, at) != PLAIN_MODE {
-        return refuse(CHUNK_MODE, chunk as usize);
+        return Err(Reason::ChunkMode.at(chunk as usize));
     }
-    Verdict::Passed
+    Ok(())
 }
 
 // A chunk of a table that stands at a place, with its hash: 23, 24, 25.
-fn check_chunk(file: &[u8], h: Header, chunk: u32, at: usize, hash: &[u8; 16]) -> Verdict
+fn check_chunk(
+    file: &[u8],
+    h: Header,
+    chunk: u32,
+    at: usize,
+    hash: &[u8; 16],
+) -> Result<(), Refusal>
     requires { (header.tabled h ≡ true) × (at ≡ header.chunk_at file.now h chunk) × (hash.now ≡ md5 (spec.chunk_of file.now h chunk)) }
     ensures { check_of result ≡ spec.chunk_check file.now h chunk }
 {
     if !equal(hash, chunk_hash(file, chunk)) {
-        return refuse(CHUNK_HASH, chunk as usize);
+        return Err(Reason::ChunkHash.at(chunk as usize));
     }
-    let mode = check_mode(file, h, chunk, at);
-    if let Verdict::Refused(_) = mode {
-        return mode;
+    check_mode(file, h, chunk, at)?;
+    if decoded_size(file, chunk) != h.encoded_size(file, chunk).saturating_sub(1) {
+        return Err(Reason::DecodedSize.at(chunk as usize));
     }
-    if decoded_size(file, chunk) != rest(h.encoded_size(file, chunk), 1) {
-        return refuse(DECODED_SIZE, chunk as usize);
-    }
-    Verdict::Passed
+    Ok(())
 }
 
 // The bytes of a chunk; none past the last.
@@ -54,7 +57,7 @@ fn size_of(file: &[u8], h: Header, chunk: u32) -> usize
 }
 
 // The chunks of a table. Two are hashed together because that is quicker; each is judged whole before the next.
-fn check_table(file: &[u8], h: Header) -> Verdict
+fn check_table(file: &[u8], h: Header) -> Result<(), Refusal>
     requires { (header.tabled h ≡ true) × (header.sizes_check file.now h ≡ silent) }
     ensures { check_of result ≡ spec.chunks_check file.now h }
 {
@@ -64,31 +67,24 @@ fn check_table(file: &[u8], h: Header) -> Verdict
     while i < chunks {
         let size = h.encoded_size(file, i);
         let next = i + 1;
+        let next_at = at + size;
         let next_size = size_of(file, h, next);
-        let hashes = digests(part(file, at, size), part(file, at + size, next_size));
-        let first = hashes.first;
-        let second = hashes.second;
-        let hash = first.bytes;
-        let verdict = check_chunk(file, h, i, at, &hash);
-        if let Verdict::Refused(_) = verdict {
-            return verdict;
-        }
+        let (first, second) = digests(part(file, at, size), part(file, next_at, next_size));
+        let hash = first?;
+        check_chunk(file, h, i, at, &hash)?;
         if chunks <= next {
-            return Verdict::Passed;
+            return Ok(());
         }
-        let next_hash = second.bytes;
-        let verdict = check_chunk(file, h, next, at + size, &next_hash);
-        if let Verdict::Refused(_) = verdict {
-            return verdict;
-        }
-        at = at + size + next_size;
+        let next_hash = second?;
+        check_chunk(file, h, next, next_at, &next_hash)?;
+        at = next_at + next_size;
         i += 2;
     }
-    Verdict::Passed
+    Ok(())
 }
 
 // All chunks. One without a table has no hash and no decoded size.
-pub(crate) fn check_chunks(file: &[u8], h: Header) -> Verdict
+pub(crate) fn check_chunks(file: &[u8], h: Header) -> Result<(), Refusal>
     requires { header.sizes_check file.now h ≡ silent }
     ensures { check_of result ≡ spec.chunks_check file.now h }
 {
@@ -115,13 +111,11 @@ pub(crate) fn fill(file: &[u8], h: Header, output: &mut [u8])
     let chunks = h.chunks();
     let mut at = h.length();
     let mut to = 0;
-    let mut i = 0;
-    while i < chunks {
+    for i in 0..chunks {
         let size = h.encoded_size(file, i);
-        let content = part(file, at + 1, rest(size, 1));
+        let content = part(file, at + 1, size.saturating_sub(1));
         copy(content, output, to);
         to += content.len();
         at += size;
-        i += 1;
     }
 }

@@ -3,8 +3,8 @@ use mathlib.Core.Path.{◌≡◌, sym, ap, ap₂, ◌∙◌}
 use mathlib.Core.List.{List, [], ◌∷◌}
 use Prim.Native.Nat.{ℕ}
 use lib.ListN.{length}
-use Rattle.refusal.specs.declared.Written.{Written}
-use Rattle.refusal.specs.declared.Written.TheVariants.{Bytes}
+use Rattle.std.specs.Prelude.{Result, Ok, Err, IfOk}
+use Rattle.refusal.specs.declared.Refusal.{Refusal}
 use Rattle.refusal.specs.Outcome.{answered, after, written_outcome}
 use Rattle.refusal.specs.Output.{filled}
 use Rattle.refusal.proofs.Laws.{skip, answered-after}
@@ -13,12 +13,11 @@ use Rattle.envelope.specs.Content.{joined}
 use Rattle.envelope.proofs.Opened.{contents_of, opens, opens-table}
 use Rattle.envelope_calls.specs.Opened.{room_for, Opened}
 
-module _ (s key lent left : List ℕ) (measured opened : Written) (told : written_outcome measured ≡ length_outcome s key)
+module _ (s key lent left : List ℕ) (opened : Result ℕ Refusal)
     (answer : written_outcome opened ≡ open_outcome s key (length lent)) (leaves : left ≡ filled (open_check s key (length lent)) (content s) lent) where
-  pub what-opened : (n : ℕ) → measured ≡ Bytes n → Opened s key lent left n opened
-  unfolding written_outcome open_check
-  what-opened n e =
-      let known = answered-after (content_check s key) (n ∷ []) (length (content s) ∷ []) (sym (ap written_outcome e) ∙ told) in
+  pub what-opened : (measured : Result ℕ Refusal) → written_outcome measured ≡ length_outcome s key → IfOk measured (λ n. Opened s key lent left n opened)
+  what-opened (Ok n) told =
+      let known = answered-after (content_check s key) (n ∷ []) (length (content s) ∷ []) told in
       let size : n ≡ length (content s) = cc known.1 in
       let whole = opens s key known.0 in
       let room : open_check s key (length lent) ≡ room_for (joined (contents_of s)) lent =
@@ -31,3 +30,4 @@ module _ (s key lent left : List ℕ) (measured opened : Written) (told : writte
         answer = answer ∙ ap₂ (λ k m. after k (answered (m ∷ []))) room (sym size);
         output = leaves ∙ ap₂ (λ k c. filled k c lent) room whole.content_joined;
       }
+  what-opened (Err r) told = tt

@@ -1,8 +1,8 @@
 -- What opens, of the answers of the calls: rule B17.
-use Rattle.std.specs.Prelude.{◌≡◌, true, List, [], ◌∷◌, ℕ, ltb, length}
+use Rattle.std.specs.Prelude.{◌≡◌, true, List, [], ◌∷◌, ℕ, ltb, length, Result}
 use Rattle.refusal.specs.Check.{Check, refused_if}
 use Rattle.refusal.specs.Number.{content_output_short}
-use Rattle.refusal.specs.declared.Written.{Written}
+use Rattle.refusal.specs.declared.Refusal.{Refusal}
 use Rattle.refusal.specs.Outcome.{answered, after, written_outcome}
 use Rattle.refusal.specs.Output.{filled}
 use Rattle.envelope_header.specs.Header.{header_of, tabled}
@@ -15,7 +15,7 @@ room_for content output = refused_if (ltb (length output) (length content)) cont
 -- A file of which `content_length` answered n, and which `open` was asked to put into output that was `lent` and is `left`. The file
 -- is its header and then its chunks, each a mode byte and then its content; n is the length of those contents joined, and they
 -- are what the output begins with, where there is room.
-pub record Opened (file key lent left : List ℕ) (n : ℕ) (opened : Written) : Type 0 where
+pub record Opened (file key lent left : List ℕ) (n : ℕ) (opened : Result ℕ Refusal) : Type 0 where
   pub contents : List (List ℕ)
   pub opens : Opens file key contents
   pub table : tabled (header_of file) ≡ true → OpensTable file contents

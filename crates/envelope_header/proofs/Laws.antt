@@ -14,14 +14,13 @@ use Rattle.parts.specs.Part.{byte_at}
 use Rattle.numbers.specs.Number.{big_at}
 use Rattle.numbers.proofs.Laws.{big_at-below}
 use Rattle.refusal.specs.Check.{Check, silent, refused, refused_if, first, first_from}
-use Rattle.refusal.specs.Number.{chunk_sizes}
+use Rattle.refusal.specs.Number.{chunk_sizes, number_of}
 use Rattle.refusal.proofs.Laws.{said, quiet, first_said, skip, from-said}
-use Rattle.refusal.proofs.Laws.{from-quiet, from-none, answered-after, refusal-after}
+use Rattle.refusal.proofs.Laws.{from-quiet, from-none, told-answer, told-refusal}
 use Rattle.refusal.specs.declared.Refusal.{Refusal}
 use Rattle.refusal.specs.Outcome.{answered, after}
 use Rattle.envelope_header.specs.declared.Header.{Header}
-use Rattle.envelope_header.specs.declared.Opened.{Opened}
-use Rattle.envelope_header.specs.declared.Opened.TheVariants.{Passed, Refused}
+use Rattle.std.specs.Prelude.{Result, Ok, Err}
 use Rattle.envelope_header.specs.Header.{count_offset, chunk_count, header_length, encoded_size, chunk_at, empty_check, sum_check, sizes_check, header_values, outcome}
 
 -- a chunk count has three bytes
@@ -119,14 +118,14 @@ module _ {s : List ℕ} {h : Header} {i left : ℕ} (z : Sized s h i left) (l : 
 
 -- ---- what opening answers
 
-pub passed-header : (k : Check) (l m : Header) (v : Opened) → outcome v ≡ after k (answered (header_values m)) → v ≡ Passed l → (k ≡ silent) × (l ≡ m)
-unfolding outcome header_values
+pub passed-header : (k : Check) (l m : Header) (v : Result Header Refusal) → outcome v ≡ after k (answered (header_values m))
+    → v ≡ Ok l → (k ≡ silent) × (l ≡ m)
+unfolding header_values
 passed-header k l m v e g =
-    let a : (k ≡ silent) × (header_values l ≡ header_values m) = answered-after k (header_values l) (header_values m) (sym (ap outcome g) ∙ e) in
+    let a = told-answer header_values k (header_values m) v e g in
     let r : l.rows ≡ m.rows = cc in
     (a.0, λ i. record { rows = r i })
 
-pub refused-header : (k : Check) (m : Header) (v : Opened) {r : Refusal} → outcome v ≡ after k (answered (header_values m)) → v ≡ Refused r
-    → k ≡ refused r.number r.place
-unfolding outcome
-refused-header k m v {r} e g = refusal-after k r.number r.place (header_values m) (sym (ap outcome g) ∙ e)
+pub refused-header : (k : Check) (m : Header) (v : Result Header Refusal) {r : Refusal} → outcome v ≡ after k (answered (header_values m)) → v ≡ Err r
+    → k ≡ refused (number_of r.reason) r.place
+refused-header k m v e g = told-refusal header_values k (header_values m) v e g

@@ -1,13 +1,12 @@
 -- The header of an envelope s and where its chunks stand: rules B1 to B5 and B8 to B10.
-use Rattle.std.specs.Prelude.{Bool, not, ◌&&◌, ◌||◌, cond, List, [], ◌∷◌, ℕ, zero, suc, ◌+◌, ◌-◌, ◌*◌, leb, eqb, length}
+use Rattle.std.specs.Prelude.{Bool, not, ◌&&◌, ◌||◌, cond, List, [], ◌∷◌, ℕ, zero, suc, ◌+◌, ◌-◌, ◌*◌, leb, eqb, length, Result}
 use Rattle.parts.specs.Part.{byte_at, part_at, same_bytes}
 use Rattle.numbers.specs.Number.{big_at}
 use Rattle.refusal.specs.Check.{Check, refused_if, first, first_from}
 use Rattle.refusal.specs.Number.{not_blte, envelope_header, chunk_sizes}
-use Rattle.refusal.specs.Outcome.{Outcome, answered, refusal, after}
+use Rattle.refusal.specs.Outcome.{Outcome, answered, after, outcome_by}
+use Rattle.refusal.specs.declared.Refusal.{Refusal}
 use Rattle.envelope_header.specs.declared.Header.{Header}
-use Rattle.envelope_header.specs.declared.Opened.{Opened}
-use Rattle.envelope_header.specs.declared.Opened.TheVariants.{Passed, Refused}
 
 -- "BLTE", then the header size in four bytes (rule B1).
 abbrev pub magic : List ℕ
@@ -103,16 +102,15 @@ unfoldable pub sizes_check : List ℕ → Header → Check
 sizes_check s h = first (first_from (empty_check s h) 0 (chunk_count h)) (sum_check s h)
 
 -- 20, 21, 22, in this order (rule B14).
-unfoldable pub opening : List ℕ → Check
+abbrev pub opening : List ℕ → Check
 opening s = first (magic_check s) (first (header_check s) (sizes_check s (header_of s)))
 
 -- The value of a header: the rows of its table.
 unfoldable pub header_values : Header → List ℕ
 header_values h = h.rows ∷ []
 
-unfoldable pub outcome : Opened → Outcome
-outcome (Passed h) = answered (header_values h)
-outcome (Refused r) = refusal r.number r.place
+abbrev pub outcome : Result Header Refusal → Outcome
+outcome = outcome_by header_values
 
 abbrev pub open_outcome : List ℕ → Outcome
 open_outcome s = after (opening s) (answered (header_values (header_of s)))

@@ -1,15 +1,14 @@
-#![tactic(auto)]
+#![tactic(auto, unfolding(refusal::specs::Check::first, refusal::specs::Check::refused_if, refusal::specs::Outcome::after))]
 
 // The header of a BLTE envelope: refusals 20 to 22, and where the chunks stand. specs/Header.antt has the names of the constants
 // as that language writes them.
 ghost use Rattle.std.specs.Prelude.{◌≡◌};
 ghost use Rattle.refusal.specs.Check.{check_of};
-ghost use Rattle.refusal.specs.Outcome.{refusal};
 ghost use Rattle.envelope_header.specs.Header as spec;
 
 use numbers::big;
-use parts::{byte, equal, part, rest};
-use refusal::{CHUNK_SIZES, ENVELOPE_HEADER, NOT_BLTE, Refusal, Verdict, refuse};
+use parts::{byte, equal, part};
+use refusal::{Reason, Refusal};
 
 pub const HEADER_SIZE_AT: usize = 4;
 
@@ -31,14 +30,8 @@ pub struct Header {
     pub rows: u32,
 }
 
-// What opening an envelope answers.
-#[derive(Clone, Copy)]
-pub enum Opened {
-    Passed(Header),
-    Refused(Refusal),
-}
-
 // Where the row of a chunk stands in the table.
+#[tactic(auto, unfolding(crate::specs::Header::row_at))]
 pub fn row_at(chunk: u32) -> usize
     ensures { result ≡ spec.row_at chunk }
 {
@@ -54,6 +47,7 @@ impl Header {
     }
 
     // How many chunks there are.
+    #[tactic(auto, unfolding(crate::specs::Header::chunk_count))]
     pub fn chunks(self) -> u32
         ensures { result ≡ spec.chunk_count self }
     {
@@ -61,6 +55,7 @@ impl Header {
     }
 
     // The bytes of the header, after which the chunks stand.
+    #[tactic(auto, unfolding(crate::specs::Header::header_length, crate::specs::Header::row_at))]
     pub fn length(self) -> usize
         ensures { result ≡ spec.header_length self }
     {
@@ -72,17 +67,19 @@ impl Header {
     }
 
     // The bytes of a chunk in the file.
+    #[tactic(auto, unfolding(crate::specs::Header::encoded_size))]
     pub fn encoded_size(self, file: &[u8], chunk: u32) -> usize
         ensures { result ≡ spec.encoded_size file.now self chunk }
     {
         if self.rows != 0 {
             return big(file, row_at(chunk), 4) as usize;
         }
-        rest(file.len(), SHORT_SIZE)
+        file.len().saturating_sub(SHORT_SIZE)
     }
 }
 
 // The bytes of a chunk's content, as the table has it.
+#[tactic(auto, unfolding(crate::specs::Header::decoded_size_at, crate::specs::Header::row_at))]
 pub fn decoded_size(file: &[u8], chunk: u32) -> usize
     ensures { result ≡ spec.decoded_size_at file.now chunk }
 {
@@ -90,6 +87,7 @@ pub fn decoded_size(file: &[u8], chunk: u32) -> usize
 }
 
 // The MD5 of a chunk, as the table has it.
+#[tactic(auto, unfolding(crate::specs::Header::chunk_hash_at, crate::specs::Header::row_at))]
 pub fn chunk_hash(file: &[u8], chunk: u32) -> &[u8]
     ensures { result.now ≡ spec.chunk_hash_at file.now chunk }
 {
@@ -97,6 +95,7 @@ pub fn chunk_hash(file: &[u8], chunk: u32) -> &[u8]
 }
 
 // Whether the file begins as an envelope does.
+#[tactic(auto, unfolding(crate::specs::Header::magic_right))]
 fn magic_right(file: &[u8]) -> bool
     ensures { result ≡ spec.magic_right file.now }
 {
@@ -107,6 +106,7 @@ fn magic_right(file: &[u8]) -> bool
 }
 
 // Whether the header is right: of size 0, or with a chunk table.
+#[tactic(auto, unfolding(crate::specs::Header::header_right))]
 fn header_right(file: &[u8]) -> bool
     ensures { result ≡ spec.header_right file.now }
 {
@@ -128,39 +128,32 @@ fn header_right(file: &[u8]) -> bool
 }
 
 // Refusal 22: takes each chunk's bytes from the rest of the file.
-fn check_sizes(file: &[u8], h: Header) -> Verdict
+fn check_sizes(file: &[u8], h: Header) -> Result<(), Refusal>
     ensures { check_of result ≡ spec.sizes_check file.now h }
 {
     let chunks = h.chunks();
     if file.len() < h.length() {
-        return refuse(CHUNK_SIZES, 0);
+        return Err(Reason::ChunkSizes.at(0));
     }
     let mut left = file.len() - h.length();
-    let mut i = 0;
-    while i < chunks {
+    for i in 0..chunks {
         let size = h.encoded_size(file, i);
         if size == 0 {
-            return refuse(CHUNK_SIZES, 0);
+            return Err(Reason::ChunkSizes.at(0));
         }
         if left < size {
-            return refuse(CHUNK_SIZES, 0);
+            return Err(Reason::ChunkSizes.at(0));
         }
         left -= size;
-        i += 1;
     }
     if left != 0 {
-        return refuse(CHUNK_SIZES, 0);
+        return Err(Reason::ChunkSizes.at(0));
     }
-    Verdict::Passed
-}
-
-fn refused(number: u32) -> Opened
-    ensures { spec.outcome result ≡ refusal number 0 }
-{
-    Opened::Refused(Refusal { number, place: 0 })
+    Ok(())
 }
 
 // The header that an envelope has.
+#[tactic(auto, unfolding(crate::specs::Header::header_of))]
 fn read_header(file: &[u8]) -> Header
     ensures { result ≡ spec.header_of file.now }
 {
@@ -173,18 +166,16 @@ fn read_header(file: &[u8]) -> Header
 }
 
 // Refusals 20 to 22, and what the header says.
-pub fn open(file: &[u8]) -> Opened
+pub fn open(file: &[u8]) -> Result<Header, Refusal>
     ensures { spec.outcome result ≡ spec.open_outcome file.now }
 {
     if !magic_right(file) {
-        return refused(NOT_BLTE);
+        return Err(Reason::NotBlte.at(0));
     }
     if !header_right(file) {
-        return refused(ENVELOPE_HEADER);
+        return Err(Reason::EnvelopeHeader.at(0));
     }
     let h = read_header(file);
-    if let Verdict::Refused(r) = check_sizes(file, h) {
-        return Opened::Refused(r);
-    }
-    Opened::Passed(h)
+    check_sizes(file, h)?;
+    Ok(h)
 }

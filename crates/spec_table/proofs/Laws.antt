@@ -5,6 +5,7 @@ use mathlib.Core.List.{List, [], ◌∷◌, ◌++◌}
 use Prim.Native.Nat.{ℕ, zero, suc, ◌+◌, ◌-◌, ◌≤◌, ◌<◌}
 use native.Mathlib.Nat.{not-suc-le-zero, sub-zero}
 use native.Mathlib.Numerals.{add-one}
+use native.Mathlib.Decide.{dec_lt}
 use native.Mathlib.Omega.{arith}
 use borrow.Author.Tests.{eq-eqb, ne_eqb}
 use lib.Dec.{eqb}
@@ -179,5 +180,9 @@ module _ {t : List ℕ} {at end : ℕ} (u : Unclosed t at end) where
   pub closed-here : end < length t → byte_at t end ≡ 0 → end - at ≡ length_at t at
   closed-here l e = omega (arith, u.long, length-zero t end l e)
 
-  pub never-closed : length t ≤ end → end - at ≡ length_at t at
-  never-closed h = omega (arith, u.long, length-end t end h)
+  pub never-closed : length t ≤ end → (at ≤ length t → end ≤ length t) → length t - at ≡ length_at t at
+  never-closed h m = go (dec_lt at (length t))
+    where
+      go : Dec (at < length t) → length t - at ≡ length_at t at
+      go (yes l) = omega (arith, m (omega arith), u.long, length-end t end h)
+      go (no l) = omega (arith, length-end t at (omega arith))

@@ -32,17 +32,15 @@ fn zeros(block: &[u8]) -> u32
     ensures { result ≡ spec.count_of block.now }
 {
     let mut found = 0;
-    let mut i = 0;
-    while i < block.len() {
-        if block[i] == 0 {
+    for b in block {
+        if *b == 0 {
             found += 1;
         }
-        i += 1;
     }
     found
 }
 
-// How many strings there are.
+// How many strings there are. A while loop: the step is the size of the block.
 pub fn count(table: &[u8]) -> usize
     ensures { result ≡ spec.count_of table.now }
 {
@@ -58,7 +56,8 @@ pub fn count(table: &[u8]) -> usize
 
 // The start of the block in which a string begins, and how many zero bytes of the block stand before it.
 fn pass_blocks(table: &[u8], number: u32) -> Place
-    ensures { spec.start_of table.now number ≡ result.at + spec.start_of (drop result.at table.now) result.left }
+    ensures inside { result.at ≤ length table.now }
+    ensures start { spec.start_of table.now number ≡ result.at + spec.start_of (drop result.at table.now) result.left }
 {
     let mut left = number;
     let mut at = 0;
@@ -80,31 +79,27 @@ pub fn start(table: &[u8], number: u32) -> usize
 {
     let place = pass_blocks(table, number);
     let mut left = place.left;
-    let mut at = place.at;
-    while at < table.len() {
+    for at in place.at..table.len() {
         if left == 0 {
             return at;
         }
         if table[at] == 0 {
             left -= 1;
         }
-        at += 1;
     }
-    at
+    table.len()
 }
 
 // The bytes from a place up to the next zero byte, or to the end.
 pub fn length(table: &[u8], at: usize) -> usize
     ensures { result ≡ spec.length_at table.now at }
 {
-    let mut end = at;
-    while end < table.len() {
+    for end in at..table.len() {
         if table[end] == 0 {
             return end - at;
         }
-        end += 1;
     }
-    end - at
+    table.len().saturating_sub(at)
 }
 
 // The string with a number, as the part of the table where it stands; empty, at the table's start, where there is none. A string

@@ -1,17 +1,14 @@
 -- `encoding_calls::content`: the refusal of the full check, or what the lookup tells.
-use mathlib.Core.Path.{◌∙◌}
-use Rattle.refusal.proofs.Laws.{refused-is, passed_is}
-use Rattle.encoding_lookup.specs.Lookup.{content_outcome}
+use mathlib.Core.Path.{sym, ap, ◌∙◌}
+use Rattle.std.proofs.lemmas.Result.{err_from_is_err_and}
+use Rattle.refusal.specs.Check.{check_of}
 use Rattle.encoding_calls.proofs.Laws.{content-checked, content-refused}
 use Rattle.encoding_calls.proofs.content.Goals as goal
 
-pub returns-in-Refused : goal.returns-in-Refused
-unfolding content_outcome
-returns-in-Refused c =
-    let checked = c.check-checked in
-    content-refused _ _ _ _ (refused-is _ _ checked.ensures c.in-Refused.is)
+pub returns-in_err-checked : goal.returns-in_err-checked
+returns-in_err-checked c =
+    let p = err_from_is_err_and c.from_residual.result c.from_residual.ensures.1 in
+    rw (p.1, p.2) (content-refused _ _ _ _ (sym c.check-checked.ensures ∙ ap check_of c.in_err-checked.was))
 
 pub returns : goal.returns
-returns c =
-    let checked = c.check-checked in
-    c.find_content.ensures ∙ content-checked _ _ (passed_is _ _ checked.ensures c.in_default.is)
+returns c = c.find_content.ensures ∙ content-checked _ _ (sym c.check-checked.ensures ∙ ap check_of c.in_ok-checked.was)

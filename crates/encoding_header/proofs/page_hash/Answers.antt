@@ -1,6 +1,5 @@
 -- `encoding_header::page_hash`: behind the first key.
 use native.Mathlib.Omega.{arith}
-use Rattle.encoding_header.specs.Header.{page_hash}
 use Rattle.encoding_header.proofs.Bounds.{TypedHeader, row-at-most}
 use Rattle.encoding_header.proofs.page_hash.Goals as goal
 
@@ -9,7 +8,3 @@ overflow_add-row_at c =
     let a = c.args in
     let typed : TypedHeader a.h = omega arith in
     omega (arith, row-at-most typed a.kind a.page (omega arith), c.row_at.ensures)
-
-pub returns : goal.returns
-unfolding page_hash
-returns c = rw (c.part.ensures.result_value, c.row_at.ensures, c.table-key_size.ensures)

@@ -1,19 +1,14 @@
 -- `encoding_header::read_table`: three fields.
 use native.Mathlib.Omega.{arith}
 use Rattle.numbers.proofs.Laws.{big_at-below}
-use Rattle.encoding_header.specs.Header.{table_from}
 use Rattle.encoding_header.proofs.read_table.Goals as goal
 
 pub overflow_cast-result : goal.overflow_cast-result
 overflow_cast-result c =
     let a = c.args in
-    record { fits = omega (arith, c.big.ensures, big_at-below a.file.now (λ i. (c.shared_slice_known-1.given i).fits) a.page_kb_at 2) }
+    record { fits = omega (arith, c.big.ensures, big_at-below a.file.now (λ i. (c.type_inv.file i).fits) a.page_kb_at 2) }
 
 pub overflow_cast-result-2 : goal.overflow_cast-result-2
 overflow_cast-result-2 c =
     let a = c.args in
-    record { fits = omega (arith, c.big-2.ensures, big_at-below a.file.now (λ i. (c.shared_slice_known-1.given i).fits) a.pages_at 4) }
-
-pub returns : goal.returns
-unfolding table_from
-returns c = rw (c.byte.ensures, c.big.ensures, c.big-2.ensures)
+    record { fits = omega (arith, c.big-2.ensures, big_at-below a.file.now (λ i. (c.type_inv.file i).fits) a.pages_at 4) }

@@ -17,9 +17,6 @@ returns-then-not-rises c =
     let here = told _ c.first_key.ensures c.rises.ensures c.if-not-rises.true in
     sym (c.loop-n.invariant ∙ c.skip-n.ensures.same ∙ up-to-here _ _ (omega (arith, c.if-n-eq0.false)) here)
 
-pub loop-n-smaller : goal.loop-n-smaller
-loop-n-smaller c = omega (arith, c.if-n-eq0.false, c.skip-n.ensures.back)
-
 pub loop-n-preserved : goal.loop-n-preserved
 loop-n-preserved c =
     let above = told _ c.first_key.ensures c.rises.ensures c.if-not-rises.false in

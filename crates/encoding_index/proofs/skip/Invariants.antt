@@ -2,8 +2,5 @@
 use Rattle.encoding_index.specs.Chosen.{Skipped}
 use Rattle.encoding_index.proofs.skip.Given as goal
 
-abbrev pub invariant-loop-n : goal.invariant-loop-n
-invariant-loop-n l = Skipped l.file l.h l.kind l.key l.from l.n
-
-abbrev pub decreases-loop-n : goal.decreases-loop-n
-decreases-loop-n l = l.n
+abbrev pub invariant-loop-i : goal.invariant-loop-i
+invariant-loop-i l = Skipped l.file l.h l.kind l.key l.from l.i

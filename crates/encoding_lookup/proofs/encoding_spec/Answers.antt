@@ -1,29 +1,13 @@
--- `encoding_lookup::encoding_spec`: by what the lookup tells.
-use mathlib.Core.Path.{sym, ap, ◌∙◌}
-use Rattle.encoding_lookup.specs.Lookup.{encoding_outcome, told_value, encoding_spec, encoding_spec_at}
-use Rattle.encoding_lookup.proofs.Inside.{encoding-inside, part-told}
+-- `encoding_lookup::encoding_spec`: the told place is inside the file.
+use mathlib.Core.Path.{ap}
+use native.Mathlib.Omega.{arith}
+use Rattle.encoding_lookup.specs.Lookup.{told_value, place_told, encoding_spec_at}
+use Rattle.encoding_lookup.proofs.Inside.{encoding-inside}
 use Rattle.encoding_lookup.proofs.encoding_spec.Goals as goal
 
-pub returns-in-Found : goal.returns-in-Found
-unfolding encoding_outcome told_value encoding_spec encoding_spec_at
-returns-in-Found c =
-    let a = c.args in
-    let told = ap encoding_outcome (sym c.in-Found.is) ∙ c.find_encoding.ensures in
-    let p = part-told a.file.now _ _ _ a.file.ref_ptr.1 _ told (encoding-inside a.file.now a.key.now) c.part.ensures.result_value c.part.ensures.ref_ptr_value.1 in
-    record { result_value = p.0; ref_ptr_value = (c.part.ensures.ref_ptr_value.0, p.1) }
-
-pub returns-in-Absent : goal.returns-in-Absent
-unfolding encoding_outcome told_value encoding_spec encoding_spec_at
-returns-in-Absent c =
-    let a = c.args in
-    let told = ap encoding_outcome (sym c.in-Absent.is) ∙ c.find_encoding.ensures in
-    let p = part-told a.file.now _ _ _ a.file.ref_ptr.1 _ told (encoding-inside a.file.now a.key.now) c.part-in-Absent.ensures.result_value c.part-in-Absent.ensures.ref_ptr_value.1 in
-    record { result_value = p.0; ref_ptr_value = (c.part-in-Absent.ensures.ref_ptr_value.0, p.1) }
-
-pub returns-in-Refused : goal.returns-in-Refused
-unfolding encoding_outcome told_value encoding_spec encoding_spec_at
-returns-in-Refused c =
-    let a = c.args in
-    let told = ap encoding_outcome (sym c.in-Refused.is) ∙ c.find_encoding.ensures in
-    let p = part-told a.file.now _ _ _ a.file.ref_ptr.1 _ told (encoding-inside a.file.now a.key.now) c.part-in-Refused.ensures.result_value c.part-in-Refused.ensures.ref_ptr_value.1 in
-    record { result_value = p.0; ref_ptr_value = (c.part-in-Refused.ensures.ref_ptr_value.0, p.1) }
+pub returns-in-Ok-Some-clause-ref_ptr_value : goal.returns-in-Ok-Some-clause-ref_ptr_value
+unfolding told_value encoding_spec_at
+returns-in-Ok-Some-clause-ref_ptr_value c =
+    let told = rw c.in-Ok-Some.field-0-is at c.in-Ok-Some.ensures in
+    let at = c.part.ensures.ref_ptr_value in
+    (at.0, omega (arith, at.1, ap place_told told, encoding-inside c.args.file.now c.args.key.now))

@@ -1,27 +1,30 @@
 -- `encoding_lookup::find_content`: by the end of the search.
-use mathlib.Core.Path.{◌∙◌}
+use mathlib.Core.Path.{refl, sym, ◌∙◌}
+use Rattle.std.proofs.lemmas.Result.{err_from_is_err_and}
+use Rattle.refusal.proofs.Laws.{after-said}
+use Rattle.encoding_header.specs.Header.{header_of}
+use Rattle.encoding_header.proofs.Laws.{refused-header}
 use Rattle.encoding_header.specs.declared.Kind.TheVariants.{Content}
-use Rattle.encoding_lookup.specs.Lookup.{seek_told, content_told, content_lookup, content_outcome}
-use Rattle.encoding_lookup.proofs.Laws.{lookup-told, lookup-refused}
+use Rattle.encoding_lookup.specs.Lookup.{lookup_check, content_told}
+use Rattle.encoding_lookup.proofs.Laws.{lookup-told}
 use Rattle.encoding_lookup.proofs.find_content.Goals as goal
 
-pub content_at-requires : goal.content_at-requires
-content_at-requires c = c.seek_key.ensures.by_index _ c.in-Entry.is
+pub returns-in_err-h : goal.returns-in_err-h
+returns-in_err-h c =
+    let s = c.args.file.now in
+    let p = err_from_is_err_and c.from_residual.result c.from_residual.ensures.1 in
+    rw (p.1, p.2) (sym (after-said _ (refused-header (lookup_check s Content c.args.key.now) (header_of s) _ c.in_err-h.ensures refl)))
 
-pub returns-in-Refused : goal.returns-in-Refused
-unfolding content_lookup content_outcome
-returns-in-Refused c =
-    lookup-refused c.args.file.now Content _ (content_told _) c.open_for.result c.open_for.ensures c.in-Refused.is
+pub returns-in_err-at : goal.returns-in_err-at
+returns-in_err-at c =
+    let p = err_from_is_err_and c.from_residual-in_err-at.result c.from_residual-in_err-at.ensures.1 in
+    rw (p.1, p.2) (lookup-told c.args.file.now Content c.args.key.now (content_told c.args.file.now) _ c.in_ok-h.ensures _ c.in_err-at.ensures.value)
 
-pub returns-in-Entry : goal.returns-in-Entry
-unfolding content_lookup seek_told
-returns-in-Entry c =
-    c.content_at.ensures ∙ lookup-told _ Content _ (content_told _) c.open_for.result c.open_for.ensures _ c.in-Passed.is _ _ c.seek_key.ensures.value c.in-Entry.is
+pub returns-in-Some : goal.returns-in-Some
+returns-in-Some c =
+    c.content_at.ensures
+    ∙ lookup-told c.args.file.now Content c.args.key.now (content_told c.args.file.now) _ c.in_ok-h.ensures _ (rw c.in-Some.is at c.in_ok-at.ensures.value)
 
-pub returns-in-Nowhere : goal.returns-in-Nowhere
-unfolding content_lookup content_outcome seek_told
-returns-in-Nowhere c = lookup-told _ Content _ (content_told _) c.open_for.result c.open_for.ensures _ c.in-Passed.is _ _ c.seek_key.ensures.value c.in-Nowhere.is
-
-pub returns-in-Over : goal.returns-in-Over
-unfolding content_lookup content_outcome seek_told
-returns-in-Over c = lookup-told _ Content _ (content_told _) c.open_for.result c.open_for.ensures _ c.in-Passed.is _ _ c.seek_key.ensures.value c.in-Over.is
+pub returns-in-None : goal.returns-in-None
+returns-in-None c =
+    lookup-told c.args.file.now Content c.args.key.now (content_told c.args.file.now) _ c.in_ok-h.ensures _ (rw c.in-None.is at c.in_ok-at.ensures.value)

@@ -1,29 +1,25 @@
 -- `encoding_lookup::open_for`: 30 to 33, then 39.
-use mathlib.Core.Path.{sym, ap, ◌∙◌}
-use Rattle.refusal.proofs.Laws.{after-said, after-quiet}
-use Rattle.encoding_header.specs.Header.{header_of, opening, outcome}
-use Rattle.encoding_header.proofs.Laws.{passed-header, refused-header}
-use Rattle.encoding_lookup.proofs.Laws.{key-wrong, key_right, opening-said}
+use mathlib.Core.Path.{refl, sym, ◌∙◌}
+use Rattle.std.proofs.lemmas.Result.{err_from_is_err_and}
+use Rattle.refusal.proofs.Laws.{after-said, after-quiet, refusal_first}
+use Rattle.encoding_header.specs.Header.{header_of, opening}
+use Rattle.encoding_header.proofs.Laws.{passed-header}
+use Rattle.encoding_lookup.specs.Lookup.{length_check}
+use Rattle.encoding_lookup.proofs.Laws.{key-wrong, key_right}
 use Rattle.encoding_lookup.proofs.open_for.Goals as goal
 
-pub returns-then-key-table : goal.returns-then-key-table
-unfolding outcome
-returns-then-key-table c =
+pub returns-in_err-h : goal.returns-in_err-h
+returns-in_err-h c =
     let s = c.args.file.now in
-    let i = passed-header (opening s) _ (header_of s) c.open-opened.result c.open-opened.ensures c.in-Passed.is in
-    sym (after-said _ (key-wrong _ _ _ _ _ i.0 i.1 c.table.ensures c.if-key-table.true))
+    let p = err_from_is_err_and c.from_residual.result c.from_residual.ensures.1 in
+    rw (p.1, p.2) (refusal_first (opening s) (length_check (header_of s) c.args.kind c.args.key.now) _ _ c.in_err-h.ensures)
 
-pub returns-else-key-table : goal.returns-else-key-table
-returns-else-key-table c =
-    let s = c.args.file.now in
-    let i = passed-header (opening s) _ (header_of s) c.open-opened.result c.open-opened.ensures c.in-Passed.is in
-    ap outcome (sym c.in-Passed.is) ∙ c.open-opened.ensures ∙ after-quiet _ i.0
-    ∙ sym (after-quiet _ (key_right _ _ _ _ _ i.0 i.1 c.table.ensures c.if-key-table.false))
+pub returns-then-key-from : goal.returns-then-key-from
+returns-then-key-from c =
+    let i = passed-header (opening c.args.file.now) _ _ _ c.in_ok-h.ensures refl in
+    rw c.at.ensures (sym (after-said _ (key-wrong _ _ _ _ _ i.0 i.1 c.table.ensures (λ e. c.if-key-from.true (e ∙ sym c.from.ensures)))))
 
-pub returns-in_default : goal.returns-in_default
-unfolding outcome
-returns-in_default c =
-    let s = c.args.file.now in
-    let o = c.open-opened in
-    let e = refused-header (opening s) (header_of s) o.result o.ensures c.in_default.is in
-    o.ensures ∙ after-said _ e ∙ sym (after-said _ (opening-said s _ _ e))
+pub returns : goal.returns
+returns c =
+    let i = passed-header (opening c.args.file.now) _ _ _ c.in_ok-h.ensures refl in
+    rw i.1 (sym (after-quiet _ (key_right _ _ _ _ _ i.0 i.1 c.table.ensures (c.if-key-from.false ∙ c.from.ensures))))

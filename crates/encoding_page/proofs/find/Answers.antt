@@ -4,7 +4,7 @@ use Prim.Native.Nat.{◌+◌}
 use native.Mathlib.Omega.{arith}
 use Rattle.parts.specs.Part.{part_at}
 use Rattle.encoding_page.specs.Entries.{key_at, ended}
-use Rattle.encoding_page.proofs.Laws.{found_inside, end-no-entry, key-inside, entry-inside, next-less}
+use Rattle.encoding_page.proofs.Laws.{key-inside, entry-inside, next-less}
 use Rattle.encoding_page.proofs.Laws.{searching-first, search-found, searching-next, search-end}
 use mathlib.Core.Bool.{false}
 use Rattle.encoding_page.proofs.find.Goals as goal
@@ -22,10 +22,12 @@ pub returns-then-same : goal.returns-then-same
 unfolding key_at
 returns-then-same c =
     let t : ended c.args.file.now c.args.h c.args.kind c.args.end c.loop-h.at ≡ false = sym c.ended.ensures ∙ c.loop-h-test.true in
-    let key : c.part.result.now ≡ key_at c.args.file.now c.args.h c.args.kind c.loop-h.at = c.part.ensures.result_value ∙ ap₂ (part_at _) (ap (◌+◌ _) c.key_offset.ensures) c.key_size-size.ensures in
+    let size = c.from-size.ensures ∙ c.key_size.ensures in
+    let key : c.part.result.now ≡ key_at c.args.file.now c.args.h c.args.kind c.loop-h.at =
+    c.part.ensures.result_value ∙ ap₂ (part_at _) (ap (◌+◌ _) c.key_offset.ensures) size in
     record {
       value = search-found _ _ _ _ _ _ _ c.loop-h.invariant _ t key (sym c.same.ensures ∙ c.if-same.true);
-      by_index = found_inside _ _ _ _ _ t;
+      by_index = entry-inside _ _ _ _ _ t;
     }
 
 pub overflow_add-at-in-loop-h : goal.overflow_add-at-in-loop-h
@@ -42,11 +44,11 @@ pub loop-h-preserved : goal.loop-h-preserved
 unfolding key_at
 loop-h-preserved c =
     let t : ended c.args.file.now c.args.h c.args.kind c.args.end c.loop-h.at ≡ false = sym c.ended.ensures ∙ c.loop-h-test.true in
-    let key : c.part.result.now ≡ key_at c.args.file.now c.args.h c.args.kind c.loop-h.at = c.part.ensures.result_value ∙ ap₂ (part_at _) (ap (◌+◌ _) c.key_offset.ensures) c.key_size-size.ensures in
+    let size = c.from-size.ensures ∙ c.key_size.ensures in
+    let key : c.part.result.now ≡ key_at c.args.file.now c.args.h c.args.kind c.loop-h.at =
+    c.part.ensures.result_value ∙ ap₂ (part_at _) (ap (◌+◌ _) c.key_offset.ensures) size in
     let differs = sym c.same.ensures ∙ c.if-same.false in
     searching-next _ _ _ _ _ _ _ c.loop-h.invariant _ _ t key differs (c.next-at-in-loop-h.ensures ∙ rw c.entry_size.ensures)
 
-pub returns : goal.returns
-returns c =
-    let over = sym c.ended.ensures ∙ c.loop-h-test.false in
-    record { value = search-end _ _ _ _ _ _ _ c.loop-h.invariant over; by_index = λ x q. absurd (end-no-entry _ x q) }
+pub returns-clause-value : goal.returns-clause-value
+returns-clause-value c = search-end _ _ _ _ _ _ _ c.loop-h.invariant (sym c.ended.ensures ∙ c.loop-h-test.false)

@@ -1,13 +1,10 @@
 -- `encoding_page::next`: what is passed over is padding, so the entries are the same.
-use mathlib.Core.Path.{◌≡◌, refl, sym, ap, ◌∙◌}
+use mathlib.Core.Path.{◌≡◌, sym, ap, ◌∙◌}
 use native.Mathlib.Omega.{arith}
 use Rattle.encoding_page.specs.Entries.{Walk, head_or, ended}
 use Rattle.encoding_page.proofs.Laws.{size-some, entry-inside, walk-padding, next-ended, next-entry}
 use mathlib.Core.Bool.{false}
 use Rattle.encoding_page.proofs.next.Goals as goal
-
-pub loop-h-init : goal.loop-h-init
-loop-h-init c = refl
 
 pub padding-requires : goal.padding-requires
 padding-requires c =

@@ -20,4 +20,4 @@ unfolding key_at
 returns c =
     let entry = sym c.ended.ensures ∙ c.if-ended.false in
     starts_first _ _ _ _ _ _ c.next-at.ensures _ _ _ entry
-    (c.part.ensures.result_value ∙ rw (c.key_offset.ensures, c.key_size.ensures)) c.same.ensures
+    (c.part.ensures.result_value ∙ rw (c.key_offset.ensures, c.from.ensures, c.key_size.ensures)) c.same.ensures

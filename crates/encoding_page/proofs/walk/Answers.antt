@@ -16,8 +16,8 @@ key_span-key-requires c =
     let key = key-inside c.args.file.now c.args.h c.args.kind c.loop-h.at in
     omega (arith, key, entry-inside _ _ _ _ _ t)
 
-pub spec_known-requires : goal.spec_known-requires
-spec_known-requires c =
+pub spec_known-specs_known-requires : goal.spec_known-specs_known-requires
+spec_known-specs_known-requires c =
     let t : ended c.args.file.now c.args.h c.args.kind c.args.end c.loop-h.at ≡ false = sym c.ended.ensures ∙ c.loop-h-test.true in
     omega (arith, entry-inside _ _ _ _ _ t)
 
@@ -35,9 +35,8 @@ pub loop-h-preserved : goal.loop-h-preserved
 loop-h-preserved c =
     let t : ended c.args.file.now c.args.h c.args.kind c.args.end c.loop-h.at ≡ false = sym c.ended.ensures ∙ c.loop-h-test.true in
     let key = c.key_span-key.ensures in
-    rw (c.both-rises.ensures, c.both-specs_known.ensures)
     (reading-next _ _ _ _ _ _ _ _ _ _ _ c.loop-h.invariant _ _ _ _ t (λ i. record { at = key.0 i; size = key.1 i })
-    c.key_rises.ensures c.spec_known.ensures
+    c.key_rises-rises.ensures c.spec_known-specs_known.ensures
     _ c.entry_size.ensures c.next-at-in-loop-h.ensures)
 
 pub returns : goal.returns

@@ -1,32 +1,23 @@
 -- `envelope::envelope_key`: the hash of the header, or of the file.
-use mathlib.Core.Path.{refl, sym, ap, ◌∙◌}
+use mathlib.Core.Path.{◌≡◌, refl, sym, ap, ◌∙◌, subst}
+use native.Mathlib.Omega.{arith}
 use lib.ListN.{length}
-use Rattle.refusal.specs.Check.{check_of}
-use Rattle.refusal.proofs.Laws.{first_said, skip}
-use Rattle.md5_digest.specs.Message.{limited}
-use Rattle.envelope_header.specs.Header.{header_of, opening}
-use Rattle.envelope_header.proofs.Laws.{passed-header, refused-header}
-use Rattle.envelope.specs.Envelope.{keyed, limit_check, key_of_check}
-use Rattle.envelope.proofs.Laws.{limit-judged, key-carried, key-refused}
-use borrow.Author.Rules.{rules}
+use Rattle.std.specs.Prelude.{IfOk}
+use Rattle.refusal.proofs.Laws.{skip}
+use Rattle.md5_digest.specs.Message.{md5, limited}
+use Rattle.envelope_header.specs.Header.{opening}
+use Rattle.envelope_header.proofs.Laws.{passed-header}
+use Rattle.envelope.specs.Envelope.{keyed, limit_check}
+use Rattle.envelope.proofs.Laws.{limit-judged}
 use Rattle.envelope.proofs.envelope_key.Goals as goal
 
-pub returns-in-Refused : goal.returns-in-Refused
-unfolding key_of_check check_of
-returns-in-Refused c =
-    let o = c.open in
+pub returns-clause-check : goal.returns-clause-check
+returns-clause-check c =
     let s = c.args.file.now in
-    let e = refused-header (opening s) (header_of s) o.result o.ensures c.in-Refused.is in
-    record { verdict_value = sym (first_said _ e); bytes_value = key-refused s e }
+    let h = passed-header (opening s) _ _ _ c.in_ok-h.ensures refl in
+    c.digest.ensures.check ∙ ap (λ m. limited (length m)) c.keyed.ensures ∙ limit-judged s _ (omega arith) ∙ ap (limit_check s) h.1 ∙ sym (skip h.0 refl)
 
-pub returns-in-Passed : goal.returns-in-Passed
-unfolding key_of_check
-returns-in-Passed c =
-    let s = c.args.file.now in
-    let o = c.open in
-    let i = passed-header (opening s) _ (header_of s) o.result o.ensures c.in-Passed.is in
-    let d = c.digest-hashed in
-    let k = c.keyed in
-    let key = k.ensures ∙ ap (keyed s) i.1 in
-    let lim = d.ensures.verdict ∙ ap (λ m. limited (length m)) k.ensures ∙ limit-judged s _ (search rules) ∙ ap (limit_check s) i.1 in
-    record { verdict_value = lim ∙ sym (skip i.0 refl); bytes_value = key-carried s k.result.now d.result.bytes i.0 key (sym d.ensures.verdict ∙ lim) d.ensures.bytes }
+pub returns-clause-bytes : goal.returns-clause-bytes
+returns-clause-bytes c =
+    let h = passed-header (opening c.args.file.now) _ _ _ c.in_ok-h.ensures refl in
+    subst (λ m. IfOk c.digest.result (λ d. d ≡ md5 m)) (c.keyed.ensures ∙ ap (keyed c.args.file.now) h.1) c.digest.ensures.bytes

@@ -2,9 +2,5 @@
 use Rattle.envelope_calls.proofs.Laws.{what-opened}
 use Rattle.envelope_calls.proofs.measure_and_open.Goals as goal
 
-pub returns : goal.returns
-returns c =
-    let told = c.content_length-length.ensures in
-    let answer = c.open-opened.ensures.result_value in
-    let output = c.open-opened.ensures.output_after in
-    record { length_value = told; opened_value = answer; output_after = output; by_index = what-opened _ _ _ _ _ _ told answer output }
+pub returns-clause-by_index : goal.returns-clause-by_index
+returns-clause-by_index c = what-opened _ _ _ _ _ c.open-opened.ensures.result_value c.open-opened.ensures.output_after _ c.content_length-length.ensures

@@ -1,11 +1,9 @@
 -- `spec_table::start`: byte by byte in the block where the string begins.
+use native.Mathlib.Omega.{arith}
 use borrow.Author.Rules.{rules}
 use Rattle.spec_table.proofs.Laws.{begins-zero, begins-other, begins-here, begins-end}
 use Rattle.spec_table.proofs.start.Goals as goal
 use Rattle.spec_table.proofs.start.Goals.{then-table-at-eq0, else-table-at-eq0}
-
-pub loop-at-init : goal.loop-at-init
-loop-at-init c = record { start = c.pass_blocks-place.ensures }
 
 pub returns-then-left-eq0 : goal.returns-then-left-eq0
 returns-then-left-eq0 c = begins-here c.loop-at.invariant c.if-left-eq0.true
@@ -19,4 +17,4 @@ loop-at-preserved c =
     ]
 
 pub returns : goal.returns
-returns c = begins-end c.loop-at.invariant (search rules)
+returns c = omega (arith, c.pass_blocks-place.ensures.inside, begins-end c.loop-at.invariant (search rules))

@@ -26,5 +26,8 @@ returns c =
     let t = a.table.now in
     record {
       result_value = c.part-2.ensures.result_value ∙ sym (string-past t a.number _ _ c.start-at.ensures c.length-count.ensures c.if-at-count.false);
-      ref_ptr_value = (c.part-2.ensures.ref_ptr_value.0, omega (arith, c.part-2.ensures.ref_ptr_value.1, string-nowhere t a.number _ _ c.start-at.ensures c.length-count.ensures c.if-at-count.false));
+      ref_ptr_value = (
+        c.part-2.ensures.ref_ptr_value.0,
+        omega (arith, c.part-2.ensures.ref_ptr_value.1, string-nowhere t a.number _ _ c.start-at.ensures c.length-count.ensures c.if-at-count.false),
+      );
     }

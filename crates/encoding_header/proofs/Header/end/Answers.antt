@@ -1,7 +1,6 @@
 -- `encoding_header::Header::end`: behind the encoding pages.
 use native.Mathlib.Omega.{arith}
 use Rattle.encoding_header.specs.declared.Kind.TheVariants.{Encoding}
-use Rattle.encoding_header.specs.Header.{end_of}
 use Rattle.encoding_header.proofs.Bounds.{TypedHeader, index-at-most, size-most}
 use Rattle.encoding_header.proofs.Header.end.Goals as goal
 
@@ -10,7 +9,3 @@ overflow_add-result c =
     let h = c.args.self in
     let typed : TypedHeader h = omega arith in
     omega (arith, index-at-most typed Encoding, size-most typed.encoding-typed, c.size.ensures, c.index_at.ensures)
-
-pub returns : goal.returns
-unfolding end_of
-returns c = rw (c.size.ensures, c.index_at.ensures)

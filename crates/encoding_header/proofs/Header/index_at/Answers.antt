@@ -1,6 +1,5 @@
 -- `encoding_header::Header::index_at`: behind the spec table, or behind the content pages.
 use native.Mathlib.Omega.{arith}
-use Rattle.encoding_header.specs.Header.{index_at}
 use Rattle.encoding_header.proofs.Bounds.{Typed, size-most}
 use Rattle.encoding_header.proofs.Header.index_at.Goals as goal
 
@@ -8,11 +7,3 @@ pub overflow_add-result : goal.overflow_add-result
 overflow_add-result c =
     let typed : Typed c.args.self.content = omega arith in
     omega (arith, size-most typed, c.size.ensures)
-
-pub returns-in-Content : goal.returns-in-Content
-unfolding index_at
-returns-in-Content c = rw c.in-Content.is
-
-pub returns-in-Encoding : goal.returns-in-Encoding
-unfolding index_at
-returns-in-Encoding c = rw (c.in-Encoding.is, c.size.ensures)

@@ -1,6 +1,5 @@
 -- `encoding_header::Table::size`: index and pages.
 use native.Mathlib.Omega.{arith}
-use Rattle.encoding_header.specs.Header.{table_size}
 use Rattle.encoding_header.proofs.Bounds.{Typed, index-most, bytes_most}
 use Rattle.encoding_header.proofs.Table.size.Goals as goal
 
@@ -15,7 +14,3 @@ overflow_add-result c =
     let t = c.args.self in
     let typed : Typed t = omega arith in
     omega (arith, index-most typed, bytes_most typed t.pages _ (omega arith) c.page_size.ensures, c.index_size.ensures)
-
-pub returns : goal.returns
-unfolding table_size
-returns c = rw (c.page_size.ensures, c.index_size.ensures)

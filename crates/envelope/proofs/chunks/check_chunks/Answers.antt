@@ -4,9 +4,6 @@ use Rattle.envelope_header.specs.Header.{chunk_at}
 use Rattle.envelope.proofs.Laws.{single-chunk}
 use Rattle.envelope.proofs.chunks.check_chunks.Goals as goal
 
-pub check_table-requires : goal.check_table-requires
-check_table-requires c = (sym c.tabled.ensures ∙ c.if-tabled.true, c.requires)
-
 pub check_mode-requires : goal.check_mode-requires
 unfolding chunk_at
 check_mode-requires c = c.length.ensures

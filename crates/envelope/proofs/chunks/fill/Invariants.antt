@@ -1,7 +1,7 @@
 -- `envelope::chunks::fill`: the output begins with the content of the chunks so far.
 use mathlib.Core.Path.{◌≡◌}
 use mathlib.Core.List.{◌++◌}
-use Prim.Native.Nat.{◌-◌, ◌≤◌}
+use Prim.Native.Nat.{◌≤◌}
 use lib.ListN.{length, drop}
 use Rattle.parts.specs.Part.{parts_from}
 use Rattle.envelope_header.specs.Header.{chunk_count, chunk_at}
@@ -12,6 +12,3 @@ abbrev pub invariant-loop-i : goal.invariant-loop-i
 invariant-loop-i l =
     (l.i ≤ chunk_count l.h) × (l.at ≡ chunk_at l.file l.h l.i) × (l.to ≡ length (parts_from (content_of l.file l.h) 0 l.i))
     × (l.output ≡ parts_from (content_of l.file l.h) 0 l.i ++ drop (length (parts_from (content_of l.file l.h) 0 l.i)) l.initial.output)
-
-abbrev pub decreases-loop-i : goal.decreases-loop-i
-decreases-loop-i l = l.chunks - l.i
