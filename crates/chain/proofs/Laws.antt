@@ -22,7 +22,7 @@ answered-silent (refused number place) o values e = absurd (let z : ◌≡◌ {A
 
 -- the first key at the place that a found content key has is the one that is followed
 pub first-told : (s key : List ℕ) (size keys at n : ℕ) → answered (size ∷ keys ∷ at ∷ n ∷ []) ≡ content_lookup s key → first_of s at n ≡ encoding_key s key
-unfolding content_lookup lookup_check first_of encoding_key part_after
+unfolding first_of encoding_key part_after
 first-told s key size keys at n e =
     let open_is : opening s ≡ silent = first-left (opening s) (length_check (header_of s) Content key) (answered-silent (lookup_check s Content key) _ _ e) in
     ap (λ k. part_after k (take (header_of s).encoding.key_size (part_at s at n))) open_is

@@ -1,18 +1,21 @@
 -- The chain from a file number to its place in an archive: rules C1 to C7.
-use Rattle.std.specs.Prelude.{List, [], ◌∷◌, ℕ, get_or, take, replicate}
+use Rattle.std.specs.Prelude.{List, [], ◌∷◌, ◌++◌, ℕ, get_or, take, replicate, Result, Ok, Err}
 use Rattle.parts.specs.Part.{part_at}
+use Rattle.refusal.specs.Number.{number_of}
 use Rattle.refusal.specs.Outcome.{Outcome, answered, absent, refusal}
 use Rattle.root.specs.Lookup as root_file
 use Rattle.encoding_header.specs.Header.{header_of, opening}
 use Rattle.encoding_lookup.specs.Lookup.{content_lookup, part_after, encoding_keys_of}
 use Rattle.index_lookup.specs.Lookup as index_file
+use Rattle.index_lookup.specs.Lookup.{values}
+use Rattle.index_lookup.specs.declared.Entry.{Entry}
 use Rattle.chain.specs.declared.Link.{Link}
 use Rattle.chain.specs.declared.Link.TheVariants.{Root, Encoding, Index}
-use Rattle.chain.specs.declared.Resolved as resolved
 use Rattle.chain.specs.declared.Resolved.{Resolved}
+use Rattle.chain.specs.declared.LinkRefusal.{LinkRefusal}
 
 -- The links: root 1, encoding 2, index 3 (rule C1).
-unfoldable pub link_number : Link → ℕ
+abbrev pub link_number : Link → ℕ
 link_number Root = 1
 link_number Encoding = 2
 link_number Index = 3
@@ -60,7 +63,13 @@ resolve root encoding index id locale unwanted =
     linked Root (root_file.lookup_of root id locale unwanted) (λ values. encoding_told encoding index (content_key root id locale unwanted))
 
 -- What the declared answers tell.
-unfoldable pub told : Resolved → Told
-told (resolved.TheVariants.Found e) = found (e.page.0 ∷ e.slot.0 ∷ e.size ∷ e.location ∷ e.compared ∷ [])
-told (resolved.TheVariants.Absent link compared) = absent_at (link_number link) compared
-told (resolved.TheVariants.Refused link r) = refused_at (link_number link) r.number r.place
+abbrev pub told_with : ℕ → Result Entry Link → Told
+told_with compared (Ok e) = found (values e ++ compared ∷ [])
+told_with compared (Err link) = absent_at (link_number link) compared
+
+abbrev pub found_told : Resolved → Told
+found_told r = told_with r.compared r.found
+
+abbrev pub told : Result Resolved LinkRefusal → Told
+told (Ok r) = found_told r
+told (Err r) = refused_at (link_number r.link) (number_of r.refusal.reason) r.refusal.place

@@ -5,27 +5,32 @@
 ghost use Rattle.std.specs.Prelude.{◌≡◌};
 ghost use Rattle.chain.specs.Chain as spec;
 
-use encoding_header::Opened;
-use encoding_lookup::{ContentFound, find_content};
+use encoding_lookup::find_content;
 use index_lookup::Entry;
 use parts::part;
 use refusal::Refusal;
 
 // The links of the chain, each with a file of its own.
-#[derive(Clone, Copy)]
+#[derive(Clone, Copy, PartialEq, Eq, Debug)]
 pub enum Link {
     Root,
     Encoding,
     Index,
 }
 
-// What the chain answers: the entry of the index; or the link that was absent, with the stored keys compared in the index; or the
-// link that refused.
+// What the chain tells where no link refuses: the entry of the index, or the link that was absent; and how many stored keys were
+// compared in the index.
 #[derive(Clone, Copy)]
-pub enum Resolved {
-    Found(Entry),
-    Absent(Link, u32),
-    Refused(Link, Refusal),
+pub struct Resolved {
+    pub found: Result<Entry, Link>,
+    pub compared: u32,
+}
+
+// The link that refused, and its refusal.
+#[derive(Clone, Copy, PartialEq, Eq, Debug)]
+pub struct LinkRefusal {
+    pub link: Link,
+    pub refusal: Refusal,
 }
 
 impl Link {
@@ -39,37 +44,65 @@ impl Link {
             Link::Index => 3,
         }
     }
+
+    // What is told where this link, before the index, was absent.
+    fn absent(self) -> Resolved
+        ensures { spec.found_told result ≡ spec.absent_at (spec.link_number self) 0 }
+    {
+        Resolved {
+            found: Err(self),
+            compared: 0,
+        }
+    }
+
+    // What is told where this link refused.
+    fn refused(self, refusal: Refusal) -> LinkRefusal
+        ensures { result ≡ record { link = self; refusal = refusal } }
+    {
+        LinkRefusal {
+            link: self,
+            refusal,
+        }
+    }
 }
 
 // The first encoding key of the run at a place.
+#[tactic(auto, unfolding(crate::specs::Chain::first_of))]
 fn first_key(encoding: &[u8], at: usize, length: usize) -> &[u8]
     ensures { result.now ≡ spec.first_of encoding.now at length }
 {
     match encoding_header::open(encoding) {
-        Opened::Refused(_) => part(encoding, 0, 0),
-        Opened::Passed(h) => part(part(encoding, at, length), 0, h.encoding.key_size as usize),
+        Ok(h) => part(
+            part(encoding, at, length),
+            0,
+            usize::from(h.encoding.key_size),
+        ),
+        Err(_) => part(encoding, 0, 0),
     }
 }
 
 // The index link, for an encoding key.
-fn resolve_encoding_key(index: &[u8], key: &[u8]) -> Resolved
+#[tactic(auto, unfolding(crate::specs::Chain::index_told, crate::specs::Chain::linked))]
+fn resolve_encoding_key(index: &[u8], key: &[u8]) -> Result<Resolved, LinkRefusal>
     ensures { spec.told result ≡ spec.index_told index.now key.now }
 {
     match index_lookup::lookup(index, key) {
-        index_lookup::Answer::Refused(r) => Resolved::Refused(Link::Index, r),
-        index_lookup::Answer::Absent(compared) => Resolved::Absent(Link::Index, compared),
-        index_lookup::Answer::Found(entry) => Resolved::Found(entry),
+        Ok(answer) => Ok(Resolved {
+            found: answer.found.ok_or(Link::Index),
+            compared: answer.compared,
+        }),
+        Err(r) => Err(Link::Index.refused(r)),
     }
 }
 
 // The links from the encoding file on, for a content key.
-fn resolve_content_key(encoding: &[u8], index: &[u8], key: &[u8]) -> Resolved
+fn resolve_content_key(encoding: &[u8], index: &[u8], key: &[u8]) -> Result<Resolved, LinkRefusal>
     ensures { spec.told result ≡ spec.encoding_told encoding.now index.now key.now }
 {
     match find_content(encoding, key) {
-        ContentFound::Refused(r) => Resolved::Refused(Link::Encoding, r),
-        ContentFound::Absent => Resolved::Absent(Link::Encoding, 0),
-        ContentFound::Found(e) => resolve_encoding_key(index, first_key(encoding, e.at, e.length)),
+        Ok(Some(e)) => resolve_encoding_key(index, first_key(encoding, e.at, e.length)),
+        Ok(None) => Ok(Link::Encoding.absent()),
+        Err(r) => Err(Link::Encoding.refused(r)),
     }
 }
 
@@ -81,15 +114,12 @@ pub fn resolve(
     id: u32,
     locale: u32,
     unwanted: u64,
-) -> Resolved
+) -> Result<Resolved, LinkRefusal>
     ensures { spec.told result ≡ spec.resolve root.now encoding.now index.now id locale unwanted }
 {
-    let found = root::lookup(root, id, locale, unwanted);
-    let answer = found.answer;
-    let key = found.key;
-    match answer {
-        root::Answer::Refused(r) => Resolved::Refused(Link::Root, r),
-        root::Answer::Absent => Resolved::Absent(Link::Root, 0),
-        root::Answer::Key(_) => resolve_content_key(encoding, index, &key),
+    match root::lookup(root, id, locale, unwanted) {
+        Ok(Some(found)) => resolve_content_key(encoding, index, &found.key),
+        Ok(None) => Ok(Link::Root.absent()),
+        Err(r) => Err(Link::Root.refused(r)),
     }
 }

@@ -110,7 +110,8 @@ module _ {root encoding index : List ℕ} (c : Fit root encoding index) where
         part_at-inside encoding (run_at h at) h.encoding.key_size (omega (arith, run.ends, run.inside, run.count)) ∙ c.encoding_keys,
       )
 
-  encoding-same : (key : List ℕ) → length key ≡ (header_of encoding).content.key_size → encoding_told encoding index key ≡ plain_encoding_told encoding index key
+  encoding-same : (key : List ℕ) → length key ≡ (header_of encoding).content.key_size
+      → encoding_told encoding index key ≡ plain_encoding_told encoding index key
   unfolding encoding_told plain_encoding_told
   encoding-same key size =
       ap (λ o. linked Encoding o (λ values. index_told index (encoding_key encoding key))) (content-agrees encoding c.encoding_passes key size).same

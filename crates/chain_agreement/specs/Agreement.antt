@@ -1,8 +1,7 @@
 -- What the chain tells of three checked files that fit each other (proofs/Agreement.antt): document 01, "From a file number to a
 -- place"; rule C8.
-use Rattle.std.specs.Prelude.{◌≡◌, List, ℕ}
-use Rattle.refusal.specs.declared.Verdict as verdict
-use Rattle.refusal.specs.declared.Verdict.{Verdict}
+use Rattle.std.specs.Prelude.{◌≡◌, List, ℕ, Result, Ok}
+use Rattle.refusal.specs.declared.Refusal.{Refusal}
 use Rattle.refusal.specs.Check.{silent, check_of}
 use Rattle.root_block.specs.Block.{size_of_key}
 use Rattle.root.specs.Root.{root_check}
@@ -10,11 +9,10 @@ use Rattle.encoding_header.specs.Header.{header_of}
 use Rattle.encoding.specs.Check as encoding_file
 use Rattle.index_layout.specs.declared.Layout.{Layout}
 use Rattle.index_layout.specs.Layout.{layout_of}
-use Rattle.index_open.specs.declared.Checked as checked
-use Rattle.index_open.specs.declared.Checked.{Checked}
 use Rattle.index_open.specs.Open.{outcome}
 use Rattle.index.specs.Check as index_file
 use Rattle.chain.specs.declared.Resolved.{Resolved}
+use Rattle.chain.specs.declared.LinkRefusal.{LinkRefusal}
 use Rattle.chain.specs.Chain.{Told, refused_at, resolve, told}
 use Rattle.chain_agreement.specs.Plain.{plain_resolve}
 
@@ -39,19 +37,19 @@ pub record Agrees (root encoding index : List ℕ) (id locale unwanted : ℕ) (t
 pub record Calls (root encoding index : List ℕ) (id locale unwanted : ℕ) : Type 0 where
   -- `root::check` answered `root-checked`, `encoding::check` `encoding-checked`, `index::check` `index-checked` and
   -- `chain::resolve` `resolved`.
-  pub root_checked : Verdict
-  pub encoding_checked : Verdict
-  pub index_checked : Checked
-  pub resolved : Resolved
+  pub root_checked : Result Unit Refusal
+  pub encoding_checked : Result Unit Refusal
+  pub index_checked : Result Layout Refusal
+  pub resolved : Result Resolved LinkRefusal
   pub root_ensures : check_of root_checked ≡ root_check root
   pub encoding_ensures : check_of encoding_checked ≡ encoding_file.full_check encoding
   pub index_ensures : outcome index_checked ≡ index_file.check_outcome index
   pub resolve_ensures : told resolved ≡ resolve root encoding index id locale unwanted
   -- The premises.
   pub layout : Layout
-  pub root_passed : root_checked ≡ verdict.TheVariants.Passed
-  pub encoding_passed : encoding_checked ≡ verdict.TheVariants.Passed
-  pub index_passed : index_checked ≡ checked.TheVariants.Passed layout
+  pub root_passed : root_checked ≡ Ok tt
+  pub encoding_passed : encoding_checked ≡ Ok tt
+  pub index_passed : index_checked ≡ Ok layout
   pub content_keys : (header_of encoding).content.key_size ≡ size_of_key
   pub encoding_keys : (header_of encoding).encoding.key_size ≡ layout.key_length
 

@@ -1,10 +1,8 @@
 -- What the chain tells of three files that passed their checks and fit each other: rule C8.
-use Rattle.std.specs.Prelude.{◌≡◌, List, ℕ}
-use Rattle.refusal.specs.declared.Verdict as verdict
+use Rattle.std.specs.Prelude.{◌≡◌, List, ℕ, Ok}
 use Rattle.root_block.specs.Block.{size_of_key}
 use Rattle.encoding_header.specs.Header.{header_of}
 use Rattle.index_layout.specs.declared.Layout.{Layout}
-use Rattle.index_open.specs.declared.Checked as checked
 use Rattle.chain.specs.Chain.{told}
 use Rattle.chain_agreement.specs.Agreement.{Agrees}
 use Rattle.chain_calls.specs.declared.Followed.{Followed}
@@ -14,9 +12,9 @@ use Rattle.chain_calls.specs.declared.Followed.{Followed}
 abbrev pub AgreesWhereChecked : (root encoding index : List ℕ) (id locale unwanted : ℕ) → Followed → Type 0
 AgreesWhereChecked root encoding index id locale unwanted r =
     (l : Layout)
-    → r.root ≡ verdict.TheVariants.Passed
-    → r.encoding ≡ verdict.TheVariants.Passed
-    → r.index ≡ checked.TheVariants.Passed l
+    → r.root ≡ Ok tt
+    → r.encoding ≡ Ok tt
+    → r.index ≡ Ok l
     → (header_of encoding).content.key_size ≡ size_of_key
     → (header_of encoding).encoding.key_size ≡ l.key_length
     → Agrees root encoding index id locale unwanted (told r.resolved)

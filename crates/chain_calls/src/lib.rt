@@ -11,17 +11,17 @@ ghost use Rattle.index.specs.Check.{check_outcome};
 ghost use Rattle.chain.specs.Chain.{resolve, told};
 ghost use Rattle.chain_calls.specs.Followed as spec;
 
-use chain::Resolved;
-use index_open::Checked;
-use refusal::Verdict;
+use chain::{LinkRefusal, Resolved};
+use index_layout::Layout;
+use refusal::Refusal;
 
 // What the three checks and the chain answered.
 #[derive(Clone, Copy)]
 pub struct Followed {
-    pub root: Verdict,
-    pub encoding: Verdict,
-    pub index: Checked,
-    pub resolved: Resolved,
+    pub root: Result<(), Refusal>,
+    pub encoding: Result<(), Refusal>,
+    pub index: Result<Layout, Refusal>,
+    pub resolved: Result<Resolved, LinkRefusal>,
 }
 
 // Checks three files and follows a file number through them (rule C8).
@@ -38,14 +38,10 @@ pub fn follow(
     ensures resolved_value { told result.resolved ≡ resolve root.now encoding.now index.now id locale unwanted }
     ensures agrees_where_checked { spec.AgreesWhereChecked root.now encoding.now index.now id locale unwanted result }
 {
-    let root_checked = root::check(root);
-    let encoding_checked = encoding::check(encoding);
-    let index_checked = index::check(index);
-    let resolved = chain::resolve(root, encoding, index, id, locale, unwanted);
     Followed {
-        root: root_checked,
-        encoding: encoding_checked,
-        index: index_checked,
-        resolved,
+        root: root::check(root),
+        encoding: encoding::check(encoding),
+        index: index::check(index),
+        resolved: chain::resolve(root, encoding, index, id, locale, unwanted),
     }
 }

@@ -79,22 +79,6 @@ ids-rise ids e = rises ids (first-right _ _ e)
 -- ---- the search
 
 module _ (ids : List ℕ) (id : ℕ) where
-  pub between-all : Between ids id 0 (id_count ids)
-  between-all = record {
-    order = omega arith;
-    within = omega arith;
-    before = λ h. absurd (omega arith);
-    stops = λ h. absurd (omega arith);
-  }
-
-  pub between-from : (low : ℕ) → low ≤ id_count ids → id_at ids (low - 1) < id → Between ids id low (id_count ids)
-  between-from low l below = record {
-    order = l;
-    within = omega arith;
-    before = λ h. below;
-    stops = λ h. absurd (omega arith);
-  }
-
   module _ {low high : ℕ} (b : Between ids id low high) (m : ℕ) (h : m < high) where
     pub between-after : id_at ids m < id → Between ids id (m + 1) high
     between-after below = record {
@@ -136,14 +120,6 @@ module _ (ids : List ℕ) (rising : Rising ids) (id place : ℕ) (b : Placed ids
 -- ---- whether an id stands at a place
 
 module _ (ids : List ℕ) (i id : ℕ) where
-  pub stands-past : id_count ids ≤ i → false ≡ stands_at ids i id
-  unfolding stands_at
-  stands-past h = sym (ap (λ t. t && eqb (id_at ids i) id) (le-ltb i (id_count ids) h))
-
-  pub stands-there : (x : ℕ) → i < id_count ids → x ≡ id_at ids i → eqb x id ≡ stands_at ids i id
-  unfolding stands_at
-  stands-there x h e = ap (λ y. eqb y id) e ∙ sym (ap (λ t. t && eqb (id_at ids i) id) (lt-ltb i (id_count ids) h))
-
   pub stands-true : stands_at ids i id ≡ true → (i < id_count ids) × (id_at ids i ≡ id)
   unfolding stands_at
   stands-true t =

@@ -1,23 +1,15 @@
 #![tactic(auto)]
 
 // A list of ids: big-endian numbers of four bytes that rise, equal neighbours allowed.
-ghost use Rattle.std.specs.Prelude.{◌≡◌, [], ◌∷◌, ◌<◌};
-ghost use Rattle.numbers.specs.Number.{big_at};
+ghost use Rattle.std.specs.Prelude.{◌≡◌, ◌<◌};
 ghost use Rattle.refusal.specs.Check.{check_of};
 ghost use Rattle.id_list.specs.Ids as spec;
 ghost use Rattle.id_list.specs.Place.{Between, Placed, stands_at};
 
-use refusal::{LIST_FALLS, LIST_LENGTH, Verdict, refuse};
+use refusal::{Reason, Refusal};
 
 // The bytes of an id.
 pub const ID_SIZE: usize = 4;
-
-// The number of four big-endian bytes.
-fn number_of(a: u8, b: u8, c: u8, d: u8) -> u32
-    ensures { result ≡ big_at (a ∷ b ∷ c ∷ d ∷ []) 0 4 }
-{
-    16_777_216 * a as u32 + 65_536 * b as u32 + 256 * c as u32 + d as u32
-}
 
 // Id i.
 fn id_at(ids: &[u8], i: usize) -> u32
@@ -25,25 +17,22 @@ fn id_at(ids: &[u8], i: usize) -> u32
     ensures { result ≡ spec.id_at ids.now i }
 {
     let at = ID_SIZE * i;
-    number_of(ids[at], ids[at + 1], ids[at + 2], ids[at + 3])
+    u32::from_be_bytes([ids[at], ids[at + 1], ids[at + 2], ids[at + 3]])
 }
 
 // Refusals 12 and 161.
-pub fn check(ids: &[u8]) -> Verdict
+pub fn check(ids: &[u8]) -> Result<(), Refusal>
     ensures { check_of result ≡ spec.ids_check ids.now }
 {
     if ids.len() % ID_SIZE != 0 {
-        return refuse(LIST_LENGTH, 0);
+        return Err(Reason::ListLength.at(0));
     }
-    let n = ids.len() / ID_SIZE;
-    let mut i = 1;
-    while i < n {
+    for i in 1..ids.len() / ID_SIZE {
         if id_at(ids, i) < id_at(ids, i - 1) {
-            return refuse(LIST_FALLS, i);
+            return Err(Reason::ListFalls.at(i));
         }
-        i += 1;
     }
-    Verdict::Passed
+    Ok(())
 }
 
 // Where an id stands or would stand, by halving.
@@ -88,22 +77,16 @@ fn ahead(ids: &[u8], id: u32, from: usize) -> usize
 pub fn place(ids: &[u8], id: u32, guess: usize) -> usize
     ensures { Placed ids.now id result }
 {
-    if 0 < guess {
-        if guess <= ids.len() / ID_SIZE {
-            if id_at(ids, guess - 1) < id {
-                return ahead(ids, id, guess);
-            }
-        }
+    if 0 < guess && guess <= ids.len() / ID_SIZE && id_at(ids, guess - 1) < id {
+        return ahead(ids, id, guess);
     }
     ahead(ids, id, 0)
 }
 
 // Whether id i is there and is this one.
+#[tactic(auto, unfolding(crate::specs::Place::stands_at))]
 pub fn stands(ids: &[u8], i: usize, id: u32) -> bool
     ensures { result ≡ stands_at ids.now i id }
 {
-    if ids.len() / ID_SIZE <= i {
-        return false;
-    }
-    id_at(ids, i) == id
+    i < ids.len() / ID_SIZE && id_at(ids, i) == id
 }

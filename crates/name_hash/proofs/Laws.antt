@@ -1,27 +1,22 @@
 -- Laws of hashlittle2, of the bytes of a path as they are hashed, and of the answer.
-use Rattle.std.proofs.Common.{◌≡◌, ℕ, zero, suc, ◌+◌, ◌-◌, ◌*◌, ◌%◌, ◌^◌, ◌<◌, ◌≤◌, min, ltb, ◌⊎◌, List, [], ◌∷◌, length, set, replicate, sym, refl, ap, ◌∙◌, zero-add, add-one, arith, ltb-false, ltb-true, le-ltb, lt-ltb, eq-eqb, ne_eqb}
+use Rattle.std.proofs.Common.{◌≡◌, ℕ, zero, suc, ◌+◌, ◌-◌, ◌*◌, ◌<◌, ◌≤◌, min, ltb, List, [], ◌∷◌, length, set, replicate}
+use Rattle.std.proofs.Common.{sym, refl, ap, ◌∙◌, zero-add, add-one, arith, ltb-false, ltb-true, eq-eqb, ne_eqb}
 use lib.ListN.{length-map, length-replicate, get_or-map, get_or-eq_default}
 use lib.Seq.{paste, paste-suc}
 use Rattle.parts.specs.Part.{byte_at, overlay}
 use Rattle.parts.proofs.Laws.{by-test, overlay-paste, overlay-zeros, overlay-length}
 use Rattle.numbers.specs.Number.{little_at, within}
-use Rattle.numbers.proofs.Laws.{within-inside, within-outside, little_at-agree}
+use Rattle.numbers.proofs.Laws.{little_at-agree}
 use Rattle.refusal.specs.Check.{silent, refused}
-use Rattle.refusal.specs.Number.{path_length}
-use Rattle.refusal.specs.Outcome.{answered, refusal}
+use Rattle.std.specs.Prelude.{Result, Ok, Err}
+use Rattle.refusal.specs.Number.{number_of}
 use Rattle.refusal.specs.declared.Refusal.{Refusal}
-use Rattle.refusal.proofs.Laws.{said, quiet, after-said, after-quiet, answered-after, refusal-after}
+use Rattle.refusal.proofs.Laws.{told-answer, told-refusal}
 use Rattle.name_hash.specs.declared.Words.{Words}
-use Rattle.name_hash.specs.declared.Hashed.{Hashed}
-use Rattle.name_hash.specs.declared.Hashed.TheVariants.{Hash, Refused}
-use Rattle.name_hash.specs.Hashlittle.{subtract, lines, mix, final, start, added_at, mixed, block_count, ended, hashlittle2}
-use Rattle.name_hash.specs.NameHash.{normal_byte, normalized, joined, name_hash, most_path, path_check, hash_outcome, outcome}
+use Rattle.name_hash.specs.Hashlittle.{lines, mix, final, start, added_at, mixed, block_count, ended, hashlittle2}
+use Rattle.name_hash.specs.NameHash.{normal_byte, normalized, name_hash, path_check, hash_outcome, outcome}
 
 -- ---- words
-
--- what wrapping subtraction gives
-pub wrapped : (x y r : ℕ) → x < 2 ^ 32 → y < 2 ^ 32 → r < 2 ^ 32 → (r + y) % 2 ^ 32 ≡ x → r ≡ subtract x y
-wrapped x y r p q s e = omega arith
 
 module _ (line : ℕ → Words → Words) where
   -- six lines, one after the other, and seven
@@ -38,18 +33,6 @@ module _ (line : ℕ → Words → Words) where
   seven-lines k1 k2 k3 k4 k5 k6 k7 e1 e2 e3 e4 e5 e6 e7 = e7 ∙ ap (line k7) (six-lines k1 k2 k3 k4 k5 k6 e1 e2 e3 e4 e5 e6)
 
 -- ---- bytes as they are hashed
-
-pub letter : (b : ℕ) → 97 ≤ b → b ≤ 122 → b - 32 ≡ normal_byte b
-unfolding normal_byte
-letter b l m = rw (within-inside 97 122 b l m)
-
-pub slash : (b : ℕ) → b ≡ 47 → 92 ≡ normal_byte b
-unfolding normal_byte within
-slash b e = rw e
-
-pub other : (b : ℕ) → (b < 97) ⊎ (122 < b) → (b ≡ 47 → ⊥) → b ≡ normal_byte b
-unfolding normal_byte
-other b o n = rw (within-outside 97 122 b o, ne_eqb b 47 n)
 
 -- a byte past the end is 0 on both sides
 pub normal-at : (s : List ℕ) (i : ℕ) → byte_at (normalized s) i ≡ normal_byte (byte_at s i)
@@ -123,23 +106,12 @@ module _ (path : List ℕ) where
 
 -- ---- what the answer says
 
-pub too_long : (s : List ℕ) → most_path < length s → refusal path_length 0 ≡ hash_outcome s
-unfolding path_check
-too_long s l = sym (after-said (answered (name_hash s ∷ [])) (said refl (lt-ltb most_path (length s) l)))
-
-pub short-enough : (s : List ℕ) (w : Words) → length s ≤ most_path → w ≡ hashlittle2 (normalized s) → answered (joined w ∷ []) ≡ hash_outcome s
-unfolding path_check name_hash
-short-enough s w l e =
-    ap (λ v. answered (joined v ∷ [])) e
-    ∙ sym (after-quiet (answered (name_hash s ∷ [])) (quiet path_length 0 refl (le-ltb most_path (length s) l)))
-
-pub passed-hash : (s : List ℕ) (r : Hashed) {h : ℕ} → outcome r ≡ hash_outcome s → r ≡ Hash h → (path_check s ≡ silent) × (h ≡ name_hash s)
-unfolding outcome
+pub passed-hash : (s : List ℕ) (r : Result ℕ Refusal) {h : ℕ} → outcome r ≡ hash_outcome s → r ≡ Ok h → (path_check s ≡ silent) × (h ≡ name_hash s)
 passed-hash s r {h} e g =
-    let a = answered-after (path_check s) (h ∷ []) (name_hash s ∷ []) (sym (ap outcome g) ∙ e) in
+    let a = told-answer (λ x. x ∷ []) (path_check s) (name_hash s ∷ []) r e g in
     let same = a.1 in
     (a.0, (cc))
 
-pub refused-hash : (s : List ℕ) (r : Hashed) {q : Refusal} → outcome r ≡ hash_outcome s → r ≡ Refused q → path_check s ≡ refused q.number q.place
-unfolding outcome
-refused-hash s r {q} e g = refusal-after (path_check s) q.number q.place (name_hash s ∷ []) (sym (ap outcome g) ∙ e)
+pub refused-hash : (s : List ℕ) (r : Result ℕ Refusal) {q : Refusal} → outcome r ≡ hash_outcome s → r ≡ Err q
+    → path_check s ≡ refused (number_of q.reason) q.place
+refused-hash s r e g = told-refusal (λ x. x ∷ []) (path_check s) (name_hash s ∷ []) r e g

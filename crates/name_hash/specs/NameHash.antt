@@ -1,11 +1,10 @@
 -- The name hash of a path: rules R19 and R21.
-use Rattle.std.specs.Prelude.{ℕ, ◌+◌, ◌-◌, ◌*◌, ◌^◌, cond, List, [], ◌∷◌, map, length, ◌==◌, nat_lt}
+use Rattle.std.specs.Prelude.{ℕ, ◌+◌, ◌-◌, ◌*◌, ◌^◌, cond, List, [], ◌∷◌, map, length, ◌==◌, nat_lt, Result}
 use Rattle.numbers.specs.Number.{within}
 use Rattle.refusal.specs.Check.{Check, refused_if}
 use Rattle.refusal.specs.Number.{path_length}
-use Rattle.refusal.specs.Outcome.{Outcome, answered, refusal, after}
-use Rattle.name_hash.specs.declared.Hashed.{Hashed}
-use Rattle.name_hash.specs.declared.Hashed.TheVariants.{Hash, Refused}
+use Rattle.refusal.specs.Outcome.{Outcome, answered, after, outcome_by}
+use Rattle.refusal.specs.declared.Refusal.{Refusal}
 use Rattle.name_hash.specs.declared.Words.{Words}
 use Rattle.name_hash.specs.Hashlittle.{hashlittle2}
 
@@ -28,13 +27,12 @@ name_hash path = joined (hashlittle2 (normalized path))
 abbrev pub most_path : ℕ
 most_path = 1024
 
-unfoldable pub path_check : List ℕ → Check
+abbrev pub path_check : List ℕ → Check
 path_check path = refused_if (nat_lt most_path (length path)) path_length 0
 
 abbrev pub hash_outcome : List ℕ → Outcome
 hash_outcome path = after (path_check path) (answered (name_hash path ∷ []))
 
 -- What an answer tells.
-unfoldable pub outcome : Hashed → Outcome
-outcome (Hash h) = answered (h ∷ [])
-outcome (Refused r) = refusal r.number r.place
+abbrev pub outcome : Result ℕ Refusal → Outcome
+outcome = outcome_by (λ h. h ∷ [])

@@ -8,21 +8,13 @@ ghost use Rattle.name_hash.specs.Hashlittle as little;
 ghost use Rattle.name_hash.specs.NameHash as spec;
 
 use numbers::word;
-use refusal::{PATH_LENGTH, Refusal};
-use std::num::{wrapping_add_u32, wrapping_sub_u32};
+use refusal::{Reason, Refusal};
 
 // The greatest length of a path.
 pub const MOST_PATH: usize = 1024;
 
 // The greatest length of a short path, as most are.
 const SHORT_PATH: usize = 128;
-
-// The name hash of a path, or why it has none.
-#[derive(Clone, Copy)]
-pub enum Hashed {
-    Hash(u64),
-    Refused(Refusal),
-}
 
 // a, b and c of hashlittle2.
 #[derive(Clone, Copy)]
@@ -36,21 +28,23 @@ fn rotate(x: u32, k: u32) -> u32
     requires { (0 < k) × (k < 32) }
     ensures { result ≡ rotated x k }
 {
-    (x << k % 32) | (x >> (32 - k) % 32)
+    x.rotate_left(k)
 }
 
 // A line of `mix`: a -= c; a ^= rot(c, k); c += b. The next line has b, c and a in the places of a, b and c.
+#[tactic(auto, unfolding(crate::specs::Hashlittle::mix_line))]
 fn mix_line(w: Words, k: u32) -> Words
     requires { (0 < k) × (k < 32) }
     ensures { result ≡ little.mix_line k w }
 {
     Words {
         a: w.b,
-        b: wrapping_add_u32(w.c, w.b),
-        c: wrapping_sub_u32(w.a, w.c) ^ rotate(w.c, k),
+        b: w.c.wrapping_add(w.b),
+        c: w.a.wrapping_sub(w.c) ^ rotate(w.c, k),
     }
 }
 
+#[tactic(auto, unfolding(crate::specs::Hashlittle::mix, crate::specs::Hashlittle::lines))]
 fn mix(w: Words) -> Words
     ensures { result ≡ little.mix w }
 {
@@ -63,13 +57,14 @@ fn mix(w: Words) -> Words
 }
 
 // A line of `final`: c ^= b; c -= rot(b, k). The next line has b, c and a in the places of a, b and c.
+#[tactic(auto, unfolding(crate::specs::Hashlittle::final_line))]
 fn final_line(w: Words, k: u32) -> Words
     requires { (0 < k) × (k < 32) }
     ensures { result ≡ little.final_line k w }
 {
     Words {
         a: w.b,
-        b: wrapping_sub_u32(w.c ^ w.b, rotate(w.b, k)),
+        b: (w.c ^ w.b).wrapping_sub(rotate(w.b, k)),
         c: w.a,
     }
 }
@@ -93,22 +88,24 @@ fn final_mix(w: Words) -> Words
 }
 
 // The three words at an offset added to a, b and c.
+#[tactic(auto, unfolding(crate::specs::Hashlittle::added))]
 fn add(w: Words, s: &[u8], at: usize) -> Words
     requires { at ≤ length s.now }
     ensures { result ≡ little.added_at s.now at w }
 {
     Words {
-        a: wrapping_add_u32(w.a, word(s, at)),
-        b: wrapping_add_u32(w.b, word(s, at + 4)),
-        c: wrapping_add_u32(w.c, word(s, at + 8)),
+        a: w.a.wrapping_add(word(s, at)),
+        b: w.b.wrapping_add(word(s, at + 4)),
+        c: w.c.wrapping_add(word(s, at + 8)),
     }
 }
 
 // a, b and c before the first of `count` bytes.
+#[tactic(auto, unfolding(crate::specs::Hashlittle::start))]
 fn start(count: u32) -> Words
     ensures { result ≡ little.start count }
 {
-    let v = wrapping_add_u32(0xdead_beef, count);
+    let v = 0xdead_beefu32.wrapping_add(count);
     Words { a: v, b: v, c: v }
 }
 
@@ -118,10 +115,8 @@ fn mix_blocks(s: &[u8], count: u32, n: usize) -> Words
     ensures { result ≡ little.mixed count s.now n }
 {
     let mut w = start(count);
-    let mut i = 0;
-    while i < n {
+    for i in 0..n {
         w = mix(add(w, s, 12 * i));
-        i += 1;
     }
     w
 }
@@ -136,6 +131,7 @@ fn end(s: &[u8], count: u32) -> Words
 }
 
 // A byte of a path as it is hashed.
+#[tactic(auto, unfolding(crate::specs::NameHash::normal_byte, numbers::specs::Number::within))]
 fn normal(b: u8) -> u8
     ensures { result ≡ spec.normal_byte b }
 {
@@ -151,64 +147,43 @@ fn normalize(path: &[u8], room: &mut [u8])
     requires { length path.now ≤ length room.old }
     ensures { room.new ≡ overlay room.old 0 (spec.normalized path.now) }
 {
-    let mut i = 0;
-    while i < path.len() {
+    for i in 0..path.len() {
         room[i] = normal(path[i]);
-        i += 1;
     }
 }
 
-// Room for the longest path.
-fn zeros() -> [u8; 1024]
-    ensures { result ≡ replicate 1024 0 }
-{
-    [0u8; 1024]
-}
-
-// A path of any length, stored as it is hashed, in front of zeros: the compiler then changes 16 bytes at a time.
-fn hash_long(path: &[u8]) -> Words
-    requires { (0 < length path.now) × (length path.now ≤ spec.most_path) }
+// A path of up to N bytes, stored as it is hashed, in front of zeros: the compiler then changes 16 bytes at a time.
+fn hash_within<const N: usize>(path: &[u8]) -> Words
+    requires { (0 < length path.now) × (length path.now ≤ N) × (N ≤ spec.most_path) }
     ensures { result ≡ little.hashlittle2 (spec.normalized path.now) }
 {
-    let mut room = zeros();
+    let mut room = [0u8; N];
     normalize(path, &mut room);
     end(&room, path.len() as u32)
 }
 
-// The same for a short path: to clear the greater room would cost as much as the hash.
-fn hash_short(path: &[u8]) -> Words
-    requires { (0 < length path.now) × (length path.now ≤ 128) }
-    ensures { result ≡ little.hashlittle2 (spec.normalized path.now) }
-{
-    let mut room = [0u8; SHORT_PATH];
-    normalize(path, &mut room);
-    end(&room, path.len() as u32)
-}
-
-// a, b and c at the end of a path.
+// a, b and c at the end of a path. Most paths are short: to clear the greater room for them would cost as much as the hash.
 fn hash_words(path: &[u8]) -> Words
     requires { length path.now ≤ spec.most_path }
     ensures { result ≡ little.hashlittle2 (spec.normalized path.now) }
 {
-    if path.len() == 0 {
+    if path.is_empty() {
         return start(0);
     }
     if path.len() <= SHORT_PATH {
-        return hash_short(path);
+        return hash_within::<SHORT_PATH>(path);
     }
-    hash_long(path)
+    hash_within::<MOST_PATH>(path)
 }
 
 // The name hash of a path, or refusal 110.
-pub fn hash(path: &[u8]) -> Hashed
+#[tactic(auto, unfolding(crate::specs::NameHash::name_hash, refusal::specs::Check::refused_if, refusal::specs::Outcome::after))]
+pub fn hash(path: &[u8]) -> Result<u64, Refusal>
     ensures { spec.outcome result ≡ spec.hash_outcome path.now }
 {
-    if MOST_PATH < path.len() {
-        return Hashed::Refused(Refusal {
-            number: PATH_LENGTH,
-            place: 0,
-        });
+    if path.len() > MOST_PATH {
+        return Err(Reason::PathLength.at(0));
     }
     let w = hash_words(path);
-    Hashed::Hash(w.c as u64 * 4294967296 + w.b as u64)
+    Ok(u64::from(w.c) * 4_294_967_296 + u64::from(w.b))
 }

@@ -26,8 +26,7 @@ use Rattle.root_block.proofs.Reckoned as ids
 use Rattle.root_block.proofs.Reckoned.{id_before, id-in-range}
 use Rattle.root.specs.Root.{blocks_by, blocks_check, root_check}
 use Rattle.root.specs.Lookup.{Record, record_at, records_from, records_in, records_by, none, this, first_of}
-use Rattle.root.specs.Lookup.{is_id, wanted, found_among, lookup_of, key_or, outcome}
-use Rattle.root.specs.declared.Answer.{Answer}
+use Rattle.root.specs.Lookup.{is_id, wanted, found_among, lookup_of, key_at, key_or}
 
 -- ---- one record
 
@@ -188,11 +187,11 @@ pub root_passed : (s : List ℕ) (l : Layout) → root_check s ≡ silent → l 
 unfolding root_check
 root_passed s l e g = rw g (first-right _ _ e)
 
-pub search_is : (s : List ℕ) (l : Layout) (id locale unwanted : ℕ) (a b : Answer) → root_check s ≡ silent → l ≡ layout_of s
-    → a ≡ b → outcome a ≡ found_among (wanted id locale unwanted) (records_by s l) → outcome b ≡ lookup_of s id locale unwanted
+pub looked : (s : List ℕ) (l : Layout) (id locale unwanted : ℕ) (o : Outcome) → root_check s ≡ silent → l ≡ layout_of s
+    → o ≡ found_among (wanted id locale unwanted) (records_by s l) → o ≡ lookup_of s id locale unwanted
 unfolding lookup_of
-search_is s l id locale unwanted a b e g q p =
-    ap outcome (sym q) ∙ p ∙ ap (λ m. found_among (wanted id locale unwanted) (records_by s m)) g ∙ sym (after-quiet _ e)
+looked s l id locale unwanted o e g p =
+    p ∙ ap (λ m. found_among (wanted id locale unwanted) (records_by s m)) g ∙ sym (after-quiet _ e)
 
 -- a whole key laid over zeros
 pub key-laid : (s : List ℕ) (at : ℕ) → at + 16 ≤ length s → overlay (replicate 16 0) 0 (part_at s at 16) ≡ part_at s at 16
@@ -202,7 +201,7 @@ key-laid s at h =
     ∙ ap (λ n. part_at s at 16 ++ drop (0 + n) (replicate 16 0)) long
     ∙ append-nil (part_at s at 16)
 
--- where a key is found, no other bytes matter
-pub key-found : (s key a b : List ℕ) (at : ℕ) (o : Outcome) → key ≡ key_or s a o → answered (at ∷ []) ≡ o → key ≡ key_or s b o
+-- where a key is found, the bytes beside it are the key, and no other bytes matter
+pub key-found : (s key other : List ℕ) (at : ℕ) (o : Outcome) → key ≡ key_at s at → answered (at ∷ []) ≡ o → key ≡ key_or s other o
 unfolding key_or
-key-found s key a b at o k e = k ∙ ap (key_or s a) (sym e) ∙ ap (key_or s b) e
+key-found s key other at o k e = k ∙ ap (key_or s other) e

@@ -16,7 +16,6 @@ use Rattle.root_block.proofs.Laws.{block-holds}
 use Rattle.root.specs.Root.{size_at, blocks_from, blocks_after, blocks_by, BlocksRule, blocks_check}
 
 header-some : (l : Layout) → 0 < header_size l
-unfolding header_size
 header-some l = omega arith
 
 module _ (s : List ℕ) (l : Layout) where

@@ -1,5 +1,6 @@
 -- The records of a root file s and the lookup of a file number: rules R15 and R16.
-use Rattle.std.specs.Prelude.{◌≡◌, Bool, false, ◌&&◌, cond, List, [], ◌∷◌, ◌++◌, ℕ, zero, suc, ◌+◌, ◌≤◌, eqb, ℤ, pos, negsuc, length, drop, replicate}
+use Rattle.std.specs.Prelude.{Bool, false, ◌&&◌, cond, List, [], ◌∷◌, ◌++◌, ℕ, zero, suc, ◌+◌, eqb, ℤ, pos, negsuc, drop, replicate}
+use Rattle.std.specs.Prelude.{Option, Some, None, Result, Ok, Err}
 use Rattle.parts.specs.Part.{part_at, overlay}
 use Rattle.numbers.specs.Number.{little_at}
 use Rattle.refusal.specs.Outcome.{Outcome, answered, absent, refusal, after}
@@ -10,8 +11,9 @@ use Rattle.root_block.specs.Block as block
 use Rattle.root_block.specs.Block.{size_of_key, name_hash_size, block_of, deltas_of, counts}
 use Rattle.root_block.specs.Ids.{id_at}
 use Rattle.root.specs.Root.{blocks_by, root_check}
-use Rattle.root.specs.declared.Answer.{Answer}
-use Rattle.root.specs.declared.Answer.TheVariants.{Key, Absent, Refused}
+use Rattle.root.specs.declared.Found.{Found}
+use Rattle.refusal.specs.declared.Refusal.{Refusal}
+use Rattle.refusal.specs.Number.{number_of}
 
 -- A record: what its block's header says, with the locale and content flags; its id; where its content key stands in the file; its
 -- name hash, little-endian, which means nothing where the block has no name hashes.
@@ -90,12 +92,12 @@ key_or s other (answered (at ∷ rest)) = key_at s at
 key_or s other (absent values) = other
 key_or s other (refusal number place) = other
 
--- What the declared answers tell.
-unfoldable pub outcome : Answer → Outcome
-outcome (Key at) = answered (at ∷ [])
-outcome Absent = absent []
-outcome (Refused r) = refusal r.number r.place
+-- What a search in the blocks tells: where the key stands.
+abbrev pub found_told : Option Found → Outcome
+found_told (Some f) = answered (f.at ∷ [])
+found_told None = absent []
 
--- A key that is found is whole: what a private function ensures.
-abbrev pub KeyInside : List ℕ → Answer → Type 0
-KeyInside s answer = (at : ℕ) → answer ≡ Key at → at + size_of_key ≤ length s
+-- What the declared answers tell.
+abbrev pub outcome : Result (Option Found) Refusal → Outcome
+outcome (Ok found) = found_told found
+outcome (Err r) = refusal (number_of r.reason) r.place

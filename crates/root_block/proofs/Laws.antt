@@ -1,9 +1,9 @@
 -- Laws of a block: what fits, and what a block that is not cut holds.
-use mathlib.Core.Path.{◌≡◌, refl, sym, ap}
+use mathlib.Core.Path.{◌≡◌, refl, ap}
 use mathlib.Core.Bool.{Bool, true, false, cond}
 use mathlib.Core.List.{List}
 use Prim.Native.Nat.{ℕ, ◌+◌, ◌*◌, ◌≤◌, ◌<◌, min}
-use native.Mathlib.Nat.{mul-le-mul, mul-le-mul_left, mul-le-mul_right, mul-suc}
+use native.Mathlib.Nat.{mul-le-mul_left, mul-le-mul_right, mul-suc}
 use native.Mathlib.Omega.{arith}
 use lib.ListN.{length}
 use borrow.Author.Tests.{lt-ltb, le-ltb, ltb-false}
@@ -15,50 +15,26 @@ use Rattle.root_layout.specs.declared.Layout.{Layout}
 use Rattle.root_layout.specs.Layout.{header_size}
 use Rattle.root_block.specs.declared.Block.{Block}
 use Rattle.root_block.specs.Ids.{ids_check}
-use Rattle.root_block.specs.Block.{name_hash_size, block_of, block_has_hashes, hash_size, block_size, deltas_of, keys_at, key_at, hash_offset, cut_check, block_check}
-
--- the same number of bytes for each of a count of records
-pub bytes_fit : (k n m : ℕ) → k ≤ m → n ≤ 4294967295 → k * n ≤ m * 4294967295
-bytes_fit k n m h l = mul-le-mul h l
+use Rattle.root_block.specs.Block.{name_hash_size, block_of, block_has_hashes, hash_size, block_size, deltas_of, keys_at, key_at, hash_offset, block_check}
 
 -- content flags of four or five bytes are read whole
 pub content-whole : (wide : Bool) → min (cond wide 5 4) 8 ≡ cond wide 5 4
 content-whole true = refl
 content-whole false = refl
 
--- ---- where keys and name hashes stand
-
-module _ (l : Layout) (k : Block) (i : ℕ) where
-  pub key-interleaved : (keys hash : ℕ) → l.interleaved ≡ true → keys ≡ keys_at l k → hash ≡ hash_size l k
-      → keys + (16 + hash) * i ≡ key_at l k i
-  unfolding key_at
-  key-interleaved keys hash t e h = rw (e, h) (sym (ap (λ x. keys_at l k + cond x (16 + hash_size l k) 16 * i) t))
-
-  pub key_apart : (keys : ℕ) → l.interleaved ≡ false → keys ≡ keys_at l k → keys + 16 * i ≡ key_at l k i
-  unfolding key_at
-  key_apart keys t e = rw e (sym (ap (λ x. keys_at l k + cond x (16 + hash_size l k) 16 * i) t))
-
-  pub hash-interleaved : (key : ℕ) → l.interleaved ≡ true → key ≡ key_at l k i → key + 16 ≡ hash_offset l k i
-  unfolding hash_offset
-  hash-interleaved key t e = rw e (sym (ap (λ x. cond x (key_at l k i + 16) (keys_at l k + 16 * k.count + 8 * i)) t))
-
-  pub hash-apart : (keys : ℕ) → l.interleaved ≡ false → keys ≡ keys_at l k → keys + 16 * k.count + 8 * i ≡ hash_offset l k i
-  unfolding hash_offset
-  hash-apart keys t e = rw e (sym (ap (λ x. cond x (key_at l k i + 16) (keys_at l k + 16 * k.count + 8 * i)) t))
-
 -- ---- the checks of a block
 
 module _ (l : Layout) (b : List ℕ) (place : ℕ) where
   pub block-cut-short : length b < block_size l (block_of l b) → block_check l b place ≡ refused block_cut place
-  unfolding block_check cut_check
+  unfolding block_check
   block-cut-short h = first_said _ (said refl (lt-ltb _ _ h))
 
   pub block-whole : block_size l (block_of l b) ≤ length b → block_check l b place ≡ ids_check (deltas_of l b) (block_of l b).count place
-  unfolding block_check cut_check
+  unfolding block_check
   block-whole h = skip (quiet block_cut place refl (le-ltb _ _ h)) refl
 
   pub block-fits : block_check l b place ≡ silent → block_size l (block_of l b) ≤ length b
-  unfolding block_check cut_check
+  unfolding block_check
   block-fits e = ltb-false _ _ (silent-test _ _ _ (first-left _ _ e))
 
   pub block-ids : block_check l b place ≡ silent → ids_check (deltas_of l b) (block_of l b).count place ≡ silent

@@ -1,16 +1,16 @@
 -- Laws of whole numbers as the code holds them: a number and its bits, and how far a sum can lie from 0.
-use mathlib.Core.Path.{◌≡◌, refl, sym, ap, ap₂, ◌∙◌}
+use mathlib.Core.Path.{◌≡◌, refl, sym, ap₂, ◌∙◌}
 use mathlib.Core.Bool.{Bool, true, false, cond, false≢true}
 use Prim.Native.Nat.{ℕ, zero, suc, ◌+◌, ◌-◌, ◌^◌, ◌≤◌, ◌<◌}
 use native.Mathlib.Nat.{le_trans, lt_of_le_of_lt}
 use native.Mathlib.Omega.{arith}
 use lib.Dec.{T, ltb}
-use lib.IntN.{ℤ, pos, negsuc, nat_abs, suc_ℤ, sub_ℕ, ◌+ℤ◌, ◌-ℤ◌, +ℤ_one}
+use lib.IntN.{ℤ, pos, negsuc, nat_abs, suc_ℤ, sub_ℕ, ◌+ℤ◌, +ℤ_one}
 use lib.Signed.{mag, lt_z, non_neg}
 use mir.Syntax.{w32, w64}
 use mir.Val.{Fits, SFits, to_z, of_z}
-use mir.Facts.{to_z-of_z, to_z_pos}
-use borrow.Author.Tests.{lt-ltb, le-ltb, le-leb, lt-leb, ltb-true, ltb-false, leb-true}
+use mir.Facts.{to_z-of_z}
+use borrow.Author.Tests.{lt-ltb, le-leb, lt-leb, ltb-true, ltb-false, leb-true}
 use Rattle.root_block.specs.Ids.{sign_bit, modulus, signed, most_id, in_range}
 
 -- ---- how far a sum lies from 0
@@ -44,26 +44,13 @@ mag-one p = rw (+ℤ_one p) (one p)
 
 -- ---- the signed number of four bytes
 
-pub signed_low : (x : ℕ) → x < sign_bit → to_z w32 x ≡ signed x
+pub signed-is : (x : ℕ) → x < 2 ^ 32 → to_z w32 x ≡ signed x
 unfolding signed
-signed_low x l = to_z_pos w32 l ∙ sym (ap (λ t. cond t (pos x) (pos x -ℤ pos modulus)) (lt-ltb x sign_bit l))
-
-wide : (x : ℕ) → x < 2 ^ 32 → to_z w64 x -ℤ pos modulus ≡ pos x -ℤ pos modulus
-wide x l = ap (λ z. z -ℤ pos modulus) (to_z_pos w64 {n = x} (omega arith))
-
-near-zero : (x : ℕ) → sign_bit ≤ x → x < 2 ^ 32 → mag (pos x -ℤ pos modulus) < sign_bit
-near-zero x h l = rw (lt-ltb x modulus l) (omega arith)
-
-module _ (x : ℕ) (h : sign_bit ≤ x) (l : x < 2 ^ 32) where
-  pub high-wide : SFits w64 (to_z w64 x -ℤ pos modulus)
-  high-wide = rw (wide x l) (record { sfits = omega (arith, near-zero x h l) })
-
-  pub high-narrow : SFits w32 (to_z w64 (of_z w64 (to_z w64 x -ℤ pos modulus)))
-  high-narrow = rw (to_z-of_z high-wide, wide x l) (record { sfits = near-zero x h l })
-
-  pub signed_high : to_z w32 (of_z w32 (to_z w64 (of_z w64 (to_z w64 x -ℤ pos modulus)))) ≡ signed x
-  unfolding signed
-  signed_high = to_z-of_z high-narrow ∙ to_z-of_z high-wide ∙ wide x l ∙ sym (ap (λ t. cond t (pos x) (pos x -ℤ pos modulus)) (le-ltb x sign_bit h))
+signed-is x l = by (ltb x sign_bit) refl
+  where
+    by : (t : Bool) → ltb x sign_bit ≡ t → to_z w32 x ≡ signed x
+    by true e = rw e
+    by false e = rw (e, lt-ltb x modulus l)
 
 -- ---- an id, plus 1, plus a delta, as the code reckons it in an i64
 

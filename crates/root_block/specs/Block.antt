@@ -57,7 +57,7 @@ unfoldable pub counts : (locale unwanted : ℕ) → Block → Bool
 counts locale unwanted k = not (eqb (bit_and k.locale locale) 0) && eqb (bit_and k.content unwanted) 0
 
 -- 40: the file ends before the block does (rule R12).
-unfoldable pub cut_check : Layout → List ℕ → ℕ → Check
+abbrev pub cut_check : Layout → List ℕ → ℕ → Check
 cut_check l b place = refused_if (ltb (length b) (block_size l (block_of l b))) block_cut place
 
 -- A block at a place of its file: 40, 41 (rule R12).

@@ -10,7 +10,7 @@ ghost use Rattle.root_block.specs.Block as spec;
 use ids::check_ids;
 use numbers::{little, word};
 use parts::part;
-use refusal::{BLOCK_CUT, Verdict, refuse};
+use refusal::{Reason, Refusal};
 use root_layout::Layout;
 
 pub mod ids;
@@ -32,6 +32,7 @@ pub struct Block {
 
 impl Block {
     // The header in front of the bytes.
+    #[tactic(auto, unfolding(crate::specs::Block::block_of))]
     pub fn read(bytes: &[u8], l: Layout) -> Block
         ensures { result ≡ spec.block_of l bytes.now }
     {
@@ -61,6 +62,7 @@ impl Block {
     }
 
     // The bytes of the block.
+    #[tactic(auto, unfolding(crate::specs::Block::block_size))]
     pub fn size(self, l: Layout) -> usize
         ensures { result ≡ spec.block_size l self }
     {
@@ -76,6 +78,7 @@ impl Block {
     }
 
     // Where the key of a record stands in the block.
+    #[tactic(auto, unfolding(crate::specs::Block::key_at))]
     pub fn key_at(self, l: Layout, i: u32) -> usize
         ensures value { result ≡ spec.key_at l self i }
         ensures upper_bound { result < 2 ^ 37 }
@@ -87,6 +90,7 @@ impl Block {
     }
 
     // Where the name hash of a record stands in a block that has them.
+    #[tactic(auto, unfolding(crate::specs::Block::key_at, crate::specs::Block::hash_offset))]
     pub fn hash_at(self, l: Layout, i: u32) -> usize
         ensures { result ≡ spec.hash_offset l self i }
     {
@@ -97,17 +101,16 @@ impl Block {
     }
 
     // Whether the block shares a locale bit and no unwanted content bit.
+    #[tactic(auto, unfolding(crate::specs::Block::counts))]
     pub fn counts(self, locale: u32, unwanted: u64) -> bool
         ensures { result ≡ spec.counts locale unwanted self }
     {
-        if self.locale & locale == 0 {
-            return false;
-        }
-        self.content & unwanted == 0
+        self.locale & locale != 0 && self.content & unwanted == 0
     }
 }
 
 // The bytes of a block's deltas.
+#[tactic(auto, unfolding(crate::specs::Block::deltas_of))]
 pub fn deltas(bytes: &[u8], l: Layout) -> &[u8]
     ensures { result.now ≡ spec.deltas_of l bytes.now }
 {
@@ -116,12 +119,12 @@ pub fn deltas(bytes: &[u8], l: Layout) -> &[u8]
 }
 
 // A block that stands at a place of its file: refusals 40 and 41.
-pub fn check(bytes: &[u8], l: Layout, place: usize) -> Verdict
+pub fn check(bytes: &[u8], l: Layout, place: usize) -> Result<(), Refusal>
     ensures { check_of result ≡ spec.block_check l bytes.now place }
 {
     let block = Block::read(bytes, l);
     if bytes.len() < block.size(l) {
-        return refuse(BLOCK_CUT, place);
+        return Err(Reason::BlockCut.at(place));
     }
     check_ids(deltas(bytes, l), block.count, place)
 }

@@ -224,9 +224,6 @@ pub record Unseen (s : List ℕ) (l : Layout) (locale unwanted : ℕ) (ids out r
   pub held : Held ids out (entry_by s locale unwanted seen)
 
 module _ (s : List ℕ) (l : Layout) (locale unwanted : ℕ) (ids out : List ℕ) where
-  pub unseen-all : blocks_check s l (blocks_by s l) ≡ silent → Held ids out (entry_by s locale unwanted []) → Unseen s l locale unwanted ids out (blocks_by s l)
-  unseen-all e h = record { passes = e; seen = []; whole = refl; held = h }
-
   pub unseen-passed : (at : ℕ) (rest : List ℕ) → Unseen s l locale unwanted ids out (at ∷ rest) → block_check l (drop at s) at ≡ silent
   unfolding blocks_check
   unseen-passed at rest u = first-left _ _ u.passes

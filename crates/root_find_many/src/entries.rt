@@ -15,10 +15,8 @@ pub(crate) fn clear(count: usize, output: &mut [u8])
     ensures { output.new ≡ parts_from (λ i. replicate 20 0) 0 count ++ drop (20 * count) output.old }
 {
     let zeros = [0u8; ENTRY_SIZE];
-    let mut i = 0;
-    while i < count {
+    for i in 0..count {
         copy(&zeros, output, ENTRY_SIZE * i);
-        i += 1;
     }
 }
 
@@ -42,6 +40,7 @@ fn put_equals(entry: &[u8; 20], ids: &[u8], id: u32, from: usize, output: &mut [
     ensures turned { Turned ids.now output.old output.new (λ x e. cond (eqb x id) entry.now e) }
 {
     let mut i = from;
+    // A while loop: it ends at the first other id, and not at a count.
     while stands(ids, i, id) {
         copy(entry, output, ENTRY_SIZE * i);
         i += 1;

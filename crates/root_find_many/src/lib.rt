@@ -1,12 +1,11 @@
 #![tactic(auto)]
 
 // Many file numbers looked up in a root file at once: one pass over its records, each of which is sought among the ids.
-ghost use Rattle.std.specs.Prelude.{◌≡◌, [], ◌+◌, ◌*◌, ◌<◌, ◌≤◌, length, drop};
+ghost use Rattle.std.specs.Prelude.{◌≡◌, [], ◌<◌, length, drop};
 ghost use Rattle.refusal.specs.Check.{silent};
 ghost use Rattle.refusal.specs.Outcome.{written_outcome};
 ghost use Rattle.id_list.specs.Place.{Rising};
 ghost use Rattle.root_layout.specs.Header as header;
-ghost use Rattle.root_block.specs.Ids.{delta_at};
 ghost use Rattle.root_block.specs.Block.{block_check};
 ghost use Rattle.root.specs.Root.{blocks_by, blocks_check};
 ghost use Rattle.root.specs.Lookup.{records_by};
@@ -15,25 +14,16 @@ ghost use Rattle.root_find_many.specs.Entries.{Room, Held, Kept, entry_by, Block
 
 use entries::{clear, put_record};
 use id_list::ID_SIZE;
-use refusal::{OUTPUT_SHORT, Refusal, Verdict, Written};
+use refusal::{Reason, Refusal};
 use root::judge;
-use root_block::ids::delta;
-use root_block::{Block, DELTA_SIZE};
-use root_layout::{Layout, Opened};
+use root_block::Block;
+use root_block::ids::delta_at;
+use root_layout::Layout;
 
 mod entries;
 
 // The bytes of an entry in the output.
 pub const ENTRY_SIZE: usize = 20;
-
-// The delta of record i.
-fn delta_at(deltas: &[u8], i: u32) -> i32
-    requires { 4 * i + 4 ≤ length deltas.now }
-    ensures { result ≡ delta_at deltas.now i }
-{
-    let at = DELTA_SIZE * i as usize;
-    delta(deltas[at], deltas[at + 1], deltas[at + 2], deltas[at + 3])
-}
 
 // Puts the entries of a block that counts, record by record. The guess is where the last id stands: ids mostly rise.
 fn put_records(
@@ -51,13 +41,11 @@ fn put_records(
     ensures kept { Kept ids.now output.old output.new }
     ensures counted_put { CountedPut file.now l at block ids.now output.old output.new }
 {
-    let count = block.count;
     let mut last: i64 = -1;
     let mut guess = 0;
-    let mut i = 0;
-    while i < count {
+    for i in 0..block.count {
         let step = delta_at(deltas, i);
-        last = last + 1 + step as i64;
+        last = last + 1 + i64::from(step);
         guess = put_record(
             file,
             at + block.key_at(l, i),
@@ -66,7 +54,6 @@ fn put_records(
             guess,
             output,
         );
-        i += 1;
     }
 }
 
@@ -130,35 +117,29 @@ fn fill(file: &[u8], l: Layout, ids: &[u8], locale: u32, unwanted: u64, output: 
 }
 
 // The root's check, 12, 161, 13, and how the blocks are laid out.
-fn judge_all(file: &[u8], ids: &[u8], room: usize) -> Opened
+fn judge_all(file: &[u8], ids: &[u8], room: usize) -> Result<Layout, Refusal>
     ensures { header.outcome result ≡ spec.judged_outcome file.now ids.now room }
 {
-    let opened = judge(file);
-    if let Opened::Refused(_) = opened {
-        return opened;
-    }
-    if let Verdict::Refused(r) = id_list::check(ids) {
-        return Opened::Refused(r);
-    }
+    let l = judge(file)?;
+    id_list::check(ids)?;
     if room / ENTRY_SIZE < ids.len() / ID_SIZE {
-        return Opened::Refused(Refusal {
-            number: OUTPUT_SHORT,
-            place: 0,
-        });
+        return Err(Reason::OutputShort.at(0));
     }
-    opened
+    Ok(l)
 }
 
 // Looks up each id of a list that rises, in the blocks that share a locale bit and no unwanted content bit.
-pub fn find_many(file: &[u8], ids: &[u8], locale: u32, unwanted: u64, output: &mut [u8]) -> Written
+pub fn find_many(
+    file: &[u8],
+    ids: &[u8],
+    locale: u32,
+    unwanted: u64,
+    output: &mut [u8],
+) -> Result<usize, Refusal>
     ensures result_value { written_outcome result ≡ spec.many_outcome file.now ids.now (length output.old) }
     ensures output_after { output.new ≡ spec.many_output file.now ids.now locale unwanted output.old }
 {
-    match judge_all(file, ids, output.len()) {
-        Opened::Refused(r) => Written::Refused(r),
-        Opened::Passed(l) => {
-            fill(file, l, ids, locale, unwanted, output);
-            Written::Bytes(ENTRY_SIZE * (ids.len() / ID_SIZE))
-        }
-    }
+    let l = judge_all(file, ids, output.len())?;
+    fill(file, l, ids, locale, unwanted, output);
+    Ok(ENTRY_SIZE * (ids.len() / ID_SIZE))
 }

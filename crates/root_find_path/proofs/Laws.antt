@@ -5,12 +5,12 @@ use mathlib.Core.List.{List, [], ◌∷◌, ◌++◌}
 use Prim.Native.Nat.{ℕ, zero, suc, ◌+◌, ◌-◌, ◌*◌, ◌≤◌, ◌<◌}
 use native.Mathlib.Nat.{add-zero, zero-add, sub-zero}
 use native.Mathlib.Omega.{arith}
-use lib.Dec.{ltb, eqb}
+use lib.Dec.{eqb}
 use lib.ListN.{length, drop}
 use lib.Seq.{get_or-drop}
-use borrow.Author.Tests.{eq-eqb, ne_eqb, ltb-true, ltb-false}
+use borrow.Author.Tests.{eq-eqb, ne_eqb}
 use Rattle.parts.specs.Part.{byte_at}
-use Rattle.parts.proofs.Laws.{by-test, both}
+use Rattle.parts.proofs.Laws.{both}
 use Rattle.numbers.specs.Number.{little_at}
 use Rattle.numbers.proofs.Laws.{little_at-agree}
 use Rattle.refusal.specs.Check.{silent}
@@ -22,58 +22,30 @@ use Rattle.root_block.specs.declared.Block.{Block}
 use Rattle.root_block.specs.Block.{block_of, block_has_hashes, hash_offset, counts}
 use Rattle.root_block.proofs.Laws.{hash-inside}
 use Rattle.root.specs.Root.{root_check}
-use Rattle.root.specs.Lookup.{Record, record_at, records_from, records_by, first_of, this}
+use Rattle.root.specs.Lookup.{Record, record_at, records_from, records_by, first_of, this, key_at}
 use Rattle.root.proofs.First.{not-wanted, is_wanted}
-use Rattle.root_find_path.specs.Path.{is_searched, named, record_told, hash_lookup, key_or, outcome}
-use Rattle.root_find_path.specs.declared.Answer.{Answer}
+use Rattle.root_find_path.specs.Path.{is_searched, named, record_told, hash_lookup, key_or}
 use Rattle.root_find_path.specs.Records.{Whole, FirstWith, hash_of}
-
--- ---- the blocks that are searched
-
-module _ (l : Layout) (locale unwanted : ℕ) (k : Block) {c : Bool} (e : c ≡ counts locale unwanted k) where
-  pub counted : {h : Bool} → c ≡ true → h ≡ block_has_hashes l k → h ≡ is_searched l locale unwanted k
-  unfolding is_searched
-  counted t g = g ∙ sym (ap (λ x. x && block_has_hashes l k) (sym e ∙ t))
-
-  pub uncounted : c ≡ false → false ≡ is_searched l locale unwanted k
-  unfolding is_searched
-  uncounted f = sym (ap (λ x. x && block_has_hashes l k) (sym e ∙ f))
 
 -- ---- the eight bytes of a name hash
 
-pub hash-halves : (s : List ℕ) (at low high : ℕ)
-    → low ≡ little_at (byte_at s at ∷ byte_at s (at + 1) ∷ byte_at s (at + 2) ∷ byte_at s (at + 3) ∷ []) 0 4
-    → high ≡ little_at (byte_at s (at + 4) ∷ byte_at s (at + 5) ∷ byte_at s (at + 6) ∷ byte_at s (at + 7) ∷ []) 0 4
-    → low + 4294967296 * high ≡ little_at s at 8
+pub hash-is : (s : List ℕ) (at : ℕ) → byte_at s at + 256 * (byte_at s (at + 1) + 256 * (byte_at s (at + 2) + 256 * (byte_at s (at + 3)
+    + 256 * (byte_at s (at + 4) + 256 * (byte_at s (at + 5) + 256 * (byte_at s (at + 6) + 256 * byte_at s (at + 7))))))) ≡ little_at s at 8
 unfolding little_at
-hash-halves s at low high p q =
+hash-is s at =
     let two : at + 1 + 1 ≡ at + 2 = omega arith in
     let three : at + 2 + 1 ≡ at + 3 = omega arith in
     let four : at + 3 + 1 ≡ at + 4 = omega arith in
     let five : at + 4 + 1 ≡ at + 5 = omega arith in
     let six : at + 5 + 1 ≡ at + 6 = omega arith in
     let seven : at + 6 + 1 ≡ at + 7 = omega arith in
-    rw (p, q, two, three, four, five, six, seven) (omega arith)
+    rw (two, three, four, five, six, seven) (omega arith)
 
 -- ---- the records of one block
 
 -- a record's name hash is a part of a whole block
 pub hash-whole : {b : List ℕ} {l : Layout} {k : Block} → Whole b l k → (i at : ℕ) → i < k.count → at ≡ hash_offset l k i → at + 8 ≤ length b
 hash-whole {l = l} {k = k} w i at h e = omega (arith, e, hash-inside l k i h w.hashes, w.fits)
-
--- None of the first i has this value.
-pub record Passed (f : ℕ → ℕ) (x i : ℕ) : Type 0 where
-  pub others : (j : ℕ) → j < i → f j ≡ x → ⊥
-
-pub passed_none : (f : ℕ → ℕ) (x : ℕ) → Passed f x 0
-passed_none f x = record { others = λ j h e. omega arith }
-
-pub passed-one : {f : ℕ → ℕ} {x i : ℕ} → Passed f x i → (f i ≡ x → ⊥) → Passed f x (i + 1)
-passed-one {f} {x} {i} p other = record {
-  others = λ j h e. by-test (ltb j i)
-      (λ t. p.others j (ltb-true j i t) e)
-      (λ t. let same : j ≡ i = omega (arith, ltb-false j i t) in other (ap f (sym same) ∙ e));
-}
 
 -- of the same bytes under the same header
 pub first-of : {b t : List ℕ} {l : Layout} {k m : Block} {hash r : ℕ} → b ≡ t → k ≡ m → FirstWith b l k hash r → FirstWith t l m hash r
@@ -162,13 +134,13 @@ searched-hashes l locale unwanted k t = (both (counts locale unwanted k) (block_
 
 -- ---- the whole lookup
 
-pub search_is : (s : List ℕ) (l : Layout) (hash locale unwanted : ℕ) (a b : Answer) → root_check s ≡ silent → l ≡ layout_of s → a ≡ b
-    → outcome a ≡ record_told (first_of (named l hash locale unwanted) (records_by s l)) → outcome b ≡ hash_lookup s hash locale unwanted
+pub looked : (s : List ℕ) (l : Layout) (hash locale unwanted : ℕ) (o : Outcome) → root_check s ≡ silent → l ≡ layout_of s
+    → o ≡ record_told (first_of (named l hash locale unwanted) (records_by s l)) → o ≡ hash_lookup s hash locale unwanted
 unfolding hash_lookup
-search_is s l hash locale unwanted a b e g q p =
-    ap outcome (sym q) ∙ p ∙ ap (λ m. record_told (first_of (named m hash locale unwanted) (records_by s m))) g ∙ sym (after-quiet _ e)
+looked s l hash locale unwanted o e g p =
+    p ∙ ap (λ m. record_told (first_of (named m hash locale unwanted) (records_by s m))) g ∙ sym (after-quiet _ e)
 
--- where a key is found, no other bytes matter
-pub key-found : (s key a b : List ℕ) (id at : ℕ) (o : Outcome) → key ≡ key_or s a o → answered (id ∷ at ∷ []) ≡ o → key ≡ key_or s b o
+-- where a key is found, the bytes beside it are the key, and no other bytes matter
+pub key-found : (s key other : List ℕ) (id at : ℕ) (o : Outcome) → key ≡ key_at s at → answered (id ∷ at ∷ []) ≡ o → key ≡ key_or s other o
 unfolding key_or
-key-found s key a b id at o k e = k ∙ ap (key_or s a) (sym e) ∙ ap (key_or s b) e
+key-found s key other id at o k e = k ∙ ap (key_or s other) e

@@ -1,15 +1,16 @@
 -- The lookup of a path in a root file s: rules R22 and R23.
-use Rattle.std.specs.Prelude.{◌≡◌, Bool, ◌&&◌, List, [], ◌∷◌, ℕ, ◌+◌, ◌≤◌, eqb, ℤ, pos, negsuc, length}
+use Rattle.std.specs.Prelude.{Bool, ◌&&◌, List, [], ◌∷◌, ℕ, eqb, ℤ, pos, negsuc, Option, Some, None, Result, Ok, Err}
+use Rattle.refusal.specs.declared.Refusal.{Refusal}
+use Rattle.refusal.specs.Number.{number_of}
 use Rattle.refusal.specs.Outcome.{Outcome, answered, absent, refusal, after}
 use Rattle.name_hash.specs.NameHash.{name_hash, path_check}
 use Rattle.root_layout.specs.declared.Layout.{Layout}
 use Rattle.root_layout.specs.Header.{layout_of}
 use Rattle.root_block.specs.declared.Block.{Block}
-use Rattle.root_block.specs.Block.{size_of_key, block_has_hashes, counts}
+use Rattle.root_block.specs.Block.{block_has_hashes, counts}
 use Rattle.root.specs.Root.{root_check}
 use Rattle.root.specs.Lookup.{Record, records, First, none, this, first_of, key_at}
-use Rattle.root_find_path.specs.declared.Answer.{Answer}
-use Rattle.root_find_path.specs.declared.Answer.TheVariants as answer
+use Rattle.root_find_path.specs.declared.Found.{Found}
 
 -- A block is searched if it counts and has name hashes (rule R22).
 unfoldable pub is_searched : Layout → (locale unwanted : ℕ) → Block → Bool
@@ -45,12 +46,12 @@ key_or s other (answered (id ∷ at ∷ rest)) = key_at s at
 key_or s other (absent values) = other
 key_or s other (refusal number place) = other
 
--- What the declared answers tell.
-unfoldable pub outcome : Answer → Outcome
-outcome (answer.Record id at) = answered (id ∷ at ∷ [])
-outcome answer.Absent = absent []
-outcome (answer.Refused r) = refusal r.number r.place
+-- What a search in the blocks tells: the id of the record, and where its key stands.
+abbrev pub found_told : Option Found → Outcome
+found_told (Some f) = answered (f.id ∷ f.at ∷ [])
+found_told None = absent []
 
--- A key that is found is whole: what a private function ensures.
-abbrev pub KeyInside : List ℕ → Answer → Type 0
-KeyInside s found = (id at : ℕ) → found ≡ answer.Record id at → at + size_of_key ≤ length s
+-- What the declared answers tell.
+abbrev pub outcome : Result (Option Found) Refusal → Outcome
+outcome (Ok found) = found_told found
+outcome (Err r) = refusal (number_of r.reason) r.place

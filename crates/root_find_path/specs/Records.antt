@@ -1,5 +1,5 @@
 -- The records of one block, whose bytes are b: what private functions require and ensure; no rule of its own.
-use Rattle.std.specs.Prelude.{◌≡◌, true, List, ℕ, ◌*◌, ◌≤◌, ◌<◌, length}
+use Rattle.std.specs.Prelude.{◌≡◌, true, List, ℕ, ◌*◌, ◌≤◌, ◌<◌, length, Option, Some, None}
 use Rattle.numbers.specs.Number.{little_at}
 use Rattle.refusal.specs.Check.{silent}
 use Rattle.root_layout.specs.declared.Layout.{Layout}
@@ -21,6 +21,11 @@ pub record FirstWith (b : List ℕ) (l : Layout) (k : Block) (hash r : ℕ) : Ty
   pub bound : r ≤ k.count
   pub others : (i : ℕ) → i < r → hash_of b l k i ≡ hash → ⊥
   pub here : r < k.count → hash_of b l k r ≡ hash
+
+-- The first record with a name hash, or none where no record has it.
+abbrev pub FoundWith : List ℕ → Layout → Block → ℕ → Option ℕ → Type 0
+FoundWith b l k hash (Some r) = (r < k.count) × FirstWith b l k hash r
+FoundWith b l k hash None = FirstWith b l k hash k.count
 
 -- The deltas of n records whose ids are in range, as the check of their block found.
 pub record Judged (d : List ℕ) (n : ℕ) : Type 0 where

@@ -7,9 +7,11 @@ use mathlib.Core.Logic.{⊎_elim}
 use Prim.Native.Nat.{ℕ, zero, suc, ◌+◌}
 use native.Mathlib.Omega.{arith}
 use lib.IntN.{ℤ, pos, negsuc}
-use lib.ListN.{drop, replicate}
+use lib.ListN.{drop}
 use borrow.Author.Tests.{eqb-true, eq-eqb}
 use Rattle.parts.proofs.Laws.{both}
+use Rattle.std.specs.Prelude.{Option, Some, None, Result, Ok, Err, IfOk, IfSome}
+use Rattle.refusal.specs.declared.Refusal.{Refusal}
 use Rattle.refusal.specs.Check.{silent}
 use Rattle.refusal.specs.Outcome.{answered}
 use Rattle.refusal.proofs.Laws.{passed_is, after-quiet, first-left, first-right}
@@ -26,8 +28,8 @@ use Rattle.root.specs.Lookup as lookup
 use Rattle.root.specs.Lookup.{record_at, records_from, records_in, records, First, this, first_of}
 use Rattle.root_records.specs.Records.{Decides, FindsFirst}
 use Rattle.root_records.proofs.Records.{finds_first}
-use Rattle.root_find_path.specs.declared.Answer.TheVariants.{Record}
-use Rattle.root_find_path.specs.Path.{is_searched, named, id_number, record_told, hash_lookup, path_lookup, key_or, outcome}
+use Rattle.root_find_path.specs.declared.Found.{Found}
+use Rattle.root_find_path.specs.Path.{is_searched, named, id_number, record_told, hash_lookup, path_lookup, outcome}
 use Rattle.root_find_path_calls.specs.Named.{Named, Calls, FindsPath}
 
 -- ---- the test takes exactly the wanted records
@@ -107,7 +109,7 @@ module _ (s path : List ℕ) (hash locale unwanted : ℕ) (c : Calls s path hash
   unfolding first-is
   finds = finds_first _ _ (decides (layout_of s) hash locale unwanted) (records s)
 
-  told_is : outcome c.looked.answer ≡ record_told first-is
+  told_is : outcome c.looked ≡ record_told first-is
   unfolding first-is path_lookup hash_lookup
   told_is =
       c.lookup_ensures
@@ -115,20 +117,22 @@ module _ (s path : List ℕ) (hash locale unwanted : ℕ) (c : Calls s path hash
       ∙ after-quiet _ silently
       ∙ ap (λ h. record_told (first_of (named (layout_of s) h locale unwanted) (records s))) (sym hashed-is.1)
 
-  own : (r : lookup.Record) (id at : ℕ) → first-is ≡ this r → c.looked.answer ≡ Record id at → (r.id ≡ pos id) × (r.key ≡ at)
-  unfolding outcome record_told
-  own r id at e q =
-      let f = finds.found r e in
-      let there = subst (Memᴰ r) (sym f.order) (member f.before f.after r) in
-      let same = values_same id at _ _ (sym (ap outcome q) ∙ told_is ∙ ap record_told e) in
+  own_is : (r : lookup.Record) → first-is ≡ this r → (v : Result (Option Found) Refusal) → outcome v ≡ record_told (this r)
+      → IfOk v (λ found. IfSome found (λ f. (r.id ≡ pos f.id) × (r.key ≡ f.at)))
+  unfolding record_told
+  own_is r e (Ok (Some f)) q =
+      let g = finds.found r e in
+      let there = subst (Memᴰ r) (sym g.order) (member g.before g.after r) in
+      let same = values_same f.id f.at _ _ q in
       (sym (number_is r.id ((of-file s silently).each r there)) ∙ ap pos (sym same.0), sym same.1)
+  own_is r e (Ok None) q = tt
+  own_is r e (Err x) q = tt
 
   pub finds-path : FindsPath s hash locale unwanted c.looked
-  unfolding outcome key_or
   finds-path = record {
     first = first-is;
     finds_first = finds;
     told = told_is;
-    own_id = own;
-    key = λ id at e. c.key_ensures ∙ ap (key_or s (replicate 16 0)) (sym c.lookup_ensures ∙ ap outcome e);
+    own_id = λ r e. own_is r e c.looked (told_is ∙ ap record_told e);
+    key = c.key_ensures;
   }

@@ -2,25 +2,22 @@
 
 // The check of a root file, the name hash of a path and the lookup of the path in the file, one call after the other. That the first
 // record is found is what `look` ensures of their answers, so that it rests on the contracts of the functions themselves.
-ghost use Rattle.std.specs.Prelude.{◌≡◌, ℕ};
+ghost use Rattle.std.specs.Prelude.{◌≡◌, ℕ, Ok};
 ghost use Rattle.refusal.specs.Check.{check_of};
-ghost use Rattle.refusal.specs.declared.Verdict.TheVariants.{Passed};
-ghost use Rattle.name_hash.specs.declared.Hashed.TheVariants.{Hash};
 ghost use Rattle.name_hash.specs.NameHash as names;
 ghost use Rattle.root.specs.Root.{root_check};
 ghost use Rattle.root_find_path.specs.Path.{path_lookup, outcome};
 ghost use Rattle.root_find_path_calls.specs.Named.{FindsPath};
 
-use name_hash::Hashed;
-use refusal::Verdict;
+use refusal::Refusal;
 use root_find_path::Found;
 
 // What the three calls answered.
 #[derive(Clone, Copy)]
 pub struct Looked {
-    pub checked: Verdict,
-    pub hashed: Hashed,
-    pub found: Found,
+    pub checked: Result<(), Refusal>,
+    pub hashed: Result<u64, Refusal>,
+    pub found: Result<Option<Found>, Refusal>,
 }
 
 // Checks a root file, hashes a path and looks it up in the file. Where the check passed and the path has a name hash, the first record
@@ -28,15 +25,12 @@ pub struct Looked {
 pub fn look(file: &[u8], path: &[u8], locale: u32, unwanted: u64) -> Looked
     ensures checked_value { check_of result.checked ≡ root_check file.now }
     ensures hashed_value { names.outcome result.hashed ≡ names.hash_outcome path.now }
-    ensures answer_value { outcome result.found.answer ≡ path_lookup file.now path.now locale unwanted }
-    ensures by_index { (hash : ℕ) → result.checked ≡ Passed → result.hashed ≡ Hash hash → FindsPath file.now hash locale unwanted result.found }
+    ensures answer_value { outcome result.found ≡ path_lookup file.now path.now locale unwanted }
+    ensures by_index { (hash : ℕ) → result.checked ≡ Ok tt → result.hashed ≡ Ok hash → FindsPath file.now hash locale unwanted result.found }
 {
-    let checked = root::check(file);
-    let hashed = name_hash::hash(path);
-    let found = root_find_path::find_path(file, path, locale, unwanted);
     Looked {
-        checked,
-        hashed,
-        found,
+        checked: root::check(file),
+        hashed: name_hash::hash(path),
+        found: root_find_path::find_path(file, path, locale, unwanted),
     }
 }

@@ -1,13 +1,12 @@
 -- The header of a root file s: rules R1 to R5 and R11. a is `header_bytes` and b `version`.
-use Rattle.std.specs.Prelude.{Bool, ◌&&◌, ◌||◌, cond, List, [], ◌∷◌, ℕ, ltb, eqb, length}
+use Rattle.std.specs.Prelude.{Bool, ◌&&◌, ◌||◌, cond, List, [], ◌∷◌, ℕ, ltb, eqb, length, Result}
 use Rattle.parts.specs.Part.{part_at, same_bytes}
 use Rattle.numbers.specs.Number.{little_at, within}
 use Rattle.refusal.specs.Check.{Check, refused_if, first}
 use Rattle.refusal.specs.Number.{root_header_size, root_header_cut, root_version}
-use Rattle.refusal.specs.Outcome.{Outcome, answered, refusal, after}
+use Rattle.refusal.specs.Outcome.{Outcome, answered, after, outcome_by}
 use Rattle.root_layout.specs.declared.Layout.{Layout}
-use Rattle.root_layout.specs.declared.Opened.{Opened}
-use Rattle.root_layout.specs.declared.Opened.TheVariants.{Passed, Refused}
+use Rattle.refusal.specs.declared.Refusal.{Refusal}
 use Rattle.root_layout.specs.Layout.{no_magic_version, short_version, layout_for}
 
 -- "MFST" or "TSFM" in front (rule R1).
@@ -17,7 +16,7 @@ mfst = 77 ∷ 70 ∷ 83 ∷ 84 ∷ []
 abbrev pub tsfm : List ℕ
 tsfm = 84 ∷ 83 ∷ 70 ∷ 77 ∷ []
 
-unfoldable pub has_magic : List ℕ → Bool
+abbrev pub has_magic : List ℕ → Bool
 has_magic s = same_bytes (part_at s 0 4) mfst || same_bytes (part_at s 0 4) tsfm
 
 -- The two numbers after it, a and b (rule R3).
@@ -49,7 +48,7 @@ least_version = 1
 abbrev pub most_version : ℕ
 most_version = 4
 
-unfoldable pub long_numbers : List ℕ → Bool
+abbrev pub long_numbers : List ℕ → Bool
 long_numbers s = within (header_bytes s) least_long most_long && within (version s) least_version most_version
 
 abbrev pub is_long : List ℕ → Bool
@@ -90,7 +89,7 @@ abbrev pub long_check : List ℕ → Check
 long_check s = refused_if (is_long s && ltb (length s) (header_bytes s)) root_header_cut 0
 
 -- 43, 44, 42, 43, in this order (rule R11).
-unfoldable pub header_check : List ℕ → Check
+abbrev pub header_check : List ℕ → Check
 header_check s = first (short_check s) (first (version_check s) (first (size_check s) (long_check s)))
 
 -- The values of a layout, in its order.
@@ -104,9 +103,8 @@ layout_values l =
     ∷ l.no_hashes
     ∷ []
 
-unfoldable pub outcome : Opened → Outcome
-outcome (Passed l) = answered (layout_values l)
-outcome (Refused r) = refusal r.number r.place
+abbrev pub outcome : Result Layout Refusal → Outcome
+outcome = outcome_by layout_values
 
 abbrev pub open_outcome : List ℕ → Outcome
 open_outcome s = after (header_check s) (answered (layout_values (layout_of s)))

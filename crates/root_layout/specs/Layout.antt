@@ -30,7 +30,7 @@ abbrev pub content_at : Layout → ℕ
 content_at l = cond l.locale_first (count_size + locale_size) count_size
 
 -- The bytes of a block header, after which the deltas stand.
-unfoldable pub header_size : Layout → ℕ
+abbrev pub header_size : Layout → ℕ
 header_size l = count_size + locale_size + content_size l + l.unknown
 
 -- Content bit 28: with a magic, a block that has it has no name hashes (rules R8, R24).
@@ -59,6 +59,6 @@ abbrev pub short_version : ℕ
 short_version = 1
 
 -- The layout of blocks of a version that begin at a byte.
-unfoldable pub layout_for : (start version : ℕ) → Layout
+abbrev pub layout_for : (start version : ℕ) → Layout
 layout_for start version =
     cond (eqb version no_magic_version) (without_magic start) (cond (eqb version short_version) (version1 start) (version2 start))

@@ -3,13 +3,12 @@
 // The header of a root file, refusals 42 to 44, and how its blocks are laid out. specs/Header.antt and specs/Layout.antt have the
 // names of the constants as that language writes them.
 ghost use Rattle.std.specs.Prelude.{◌≡◌, ◌≤◌};
-ghost use Rattle.refusal.specs.Outcome.{refusal};
 ghost use Rattle.root_layout.specs.Layout as spec;
 ghost use Rattle.root_layout.specs.Header as header;
 
 use numbers::{within, word};
 use parts::{equal, part};
-use refusal::{ROOT_HEADER_CUT, ROOT_HEADER_SIZE, ROOT_VERSION, Refusal};
+use refusal::{Reason, Refusal};
 
 // After the magic: the numbers a and b.
 pub const HEADER_SIZE_AT: usize = 4;
@@ -69,13 +68,6 @@ pub struct Layout {
     pub no_hashes: u64,
 }
 
-// What opening a root file answers.
-#[derive(Clone, Copy)]
-pub enum Opened {
-    Passed(Layout),
-    Refused(Refusal),
-}
-
 impl Layout {
     // The bytes of the content flags.
     pub fn content_size(self) -> usize
@@ -116,7 +108,7 @@ impl Layout {
         ensures value { result ≡ spec.header_size self }
         ensures upper_bound { result ≤ 268 }
     {
-        COUNT_SIZE + LOCALE_SIZE + self.content_size() + self.unknown as usize
+        COUNT_SIZE + LOCALE_SIZE + self.content_size() + usize::from(self.unknown)
     }
 }
 
@@ -159,51 +151,41 @@ fn has_magic(file: &[u8]) -> bool
     ensures { result ≡ header.has_magic file.now }
 {
     let front = part(file, 0, 4);
-    if equal(front, b"MFST") {
-        return true;
-    }
-    equal(front, b"TSFM")
+    equal(front, b"MFST") || equal(front, b"TSFM")
 }
 
 // Whether the numbers after the magic tell a long header.
 fn long_numbers(file: &[u8]) -> bool
     ensures { result ≡ header.long_numbers file.now }
 {
-    if !within(word(file, HEADER_SIZE_AT), LEAST_LONG, MOST_LONG) {
-        return false;
-    }
-    within(word(file, VERSION_AT), LEAST_VERSION, MOST_VERSION)
-}
-
-fn refused(number: u32) -> Opened
-    ensures { header.outcome result ≡ refusal number 0 }
-{
-    Opened::Refused(Refusal { number, place: 0 })
+    within(word(file, HEADER_SIZE_AT), LEAST_LONG, MOST_LONG)
+        && within(word(file, VERSION_AT), LEAST_VERSION, MOST_VERSION)
 }
 
 // Refusals 43, 44, 42, 43, and how the blocks are laid out.
-pub fn open(file: &[u8]) -> Opened
+#[tactic(auto, unfolding(crate::specs::Header::layout_of, refusal::specs::Check::first, refusal::specs::Check::refused_if, refusal::specs::Outcome::after))]
+pub fn open(file: &[u8]) -> Result<Layout, Refusal>
     ensures { header.outcome result ≡ header.open_outcome file.now }
 {
     if !has_magic(file) {
-        return Opened::Passed(layout_for(0, NO_MAGIC_VERSION));
+        return Ok(layout_for(0, NO_MAGIC_VERSION));
     }
     if file.len() < SHORT_HEADER as usize {
-        return refused(ROOT_HEADER_CUT);
+        return Err(Reason::RootHeaderCut.at(0));
     }
     if !long_numbers(file) {
-        return Opened::Passed(layout_for(SHORT_HEADER, SHORT_VERSION));
+        return Ok(layout_for(SHORT_HEADER, SHORT_VERSION));
     }
     let version = word(file, VERSION_AT);
     if version == REFUSED_VERSION {
-        return refused(ROOT_VERSION);
+        return Err(Reason::RootVersion.at(0));
     }
     let size = word(file, HEADER_SIZE_AT);
     if size < LEAST_SIZE {
-        return refused(ROOT_HEADER_SIZE);
+        return Err(Reason::RootHeaderSize.at(0));
     }
     if file.len() < size as usize {
-        return refused(ROOT_HEADER_CUT);
+        return Err(Reason::RootHeaderCut.at(0));
     }
-    Opened::Passed(layout_for(size, version))
+    Ok(layout_for(size, version))
 }

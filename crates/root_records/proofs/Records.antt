@@ -7,12 +7,11 @@ use mathlib.Core.Logic.{◌⊎◌, inl, inr, ⊎_elim}
 use Prim.Native.Nat.{ℕ}
 use native.Mathlib.Omega.{arith}
 use lib.IntN.{ℤ, pos, negsuc}
-use lib.ListN.{replicate}
 use borrow.Author.Tests.{eqb-true, eq-eqb}
 use Rattle.refusal.proofs.Laws.{passed_is, after-quiet}
 use Rattle.root_block.specs.Block.{counts}
 use Rattle.root.specs.Root.{root_check}
-use Rattle.root.specs.Lookup.{Record, records, First, none, this, first_of, is_id, wanted, lookup_of, key_or, outcome}
+use Rattle.root.specs.Lookup.{Record, records, First, none, this, first_of, is_id, wanted, lookup_of}
 use Rattle.root.proofs.First.{not-wanted, is_wanted}
 use Rattle.root_records.specs.Records.{Decides, NoneWanted, FirstWanted, FindsFirst, Wanted, Calls, FindsNumber}
 
@@ -121,10 +120,10 @@ wanted-decides id locale unwanted = record {
 
 module _ (s : List ℕ) (id locale unwanted : ℕ) (c : Calls s id locale unwanted) where
   pub finds-number : FindsNumber s id locale unwanted c.looked
-  unfolding lookup_of key_or outcome
+  unfolding lookup_of
   finds-number = record {
     first = first_of (wanted id locale unwanted) (records s);
     finds_first = finds_first _ _ (wanted-decides id locale unwanted) (records s);
     told = c.lookup_ensures ∙ after-quiet _ (passed_is c.checked (root_check s) c.check_ensures c.passed);
-    key = λ at e. c.key_ensures ∙ ap (key_or s (replicate 16 0)) (sym c.lookup_ensures ∙ ap outcome e);
+    key = c.key_ensures;
   }

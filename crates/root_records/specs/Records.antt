@@ -1,16 +1,14 @@
 -- The first of all records that is wanted: a search finds exactly the first record, in file order, of all that are wanted, and nothing
 -- exactly where none is. For the lookup of a file number, a record is wanted if its block counts and its id is the sought one: rules
 -- R14 to R16.
-use Rattle.std.specs.Prelude.{◌≡◌, Bool, true, ℕ, pos, replicate}
+use Rattle.std.specs.Prelude.{◌≡◌, Bool, true, ℕ, pos, Option, Result, Ok, IfOk, IfSome}
 use mathlib.Core.List.{List, ◌∷◌, ◌++◌, Memᴰ}
-use Rattle.refusal.specs.declared.Verdict.{Verdict}
-use Rattle.refusal.specs.declared.Verdict.TheVariants.{Passed}
+use Rattle.refusal.specs.declared.Refusal.{Refusal}
 use Rattle.refusal.specs.Check.{check_of}
 use Rattle.root_block.specs.Block.{counts}
 use Rattle.root.specs.declared.Found.{Found}
-use Rattle.root.specs.declared.Answer.TheVariants.{Key}
 use Rattle.root.specs.Root.{root_check}
-use Rattle.root.specs.Lookup.{Record, records, First, none, this, lookup_of, key_told, key_at, key_or, outcome}
+use Rattle.root.specs.Lookup.{Record, records, First, none, this, lookup_of, key_told, key_at, outcome}
 
 -- ---- whatever is wanted of a record
 
@@ -48,19 +46,19 @@ pub record Wanted (id locale unwanted : ℕ) (r : Record) : Type 0 where
 -- Calls of the functions on a file: what each answered, as its contract says, where the check passed.
 pub record Calls (s : List ℕ) (id locale unwanted : ℕ) : Type 0 where
   -- `root::check` answered `checked`, and `root::lookup` answered `looked`.
-  pub checked : Verdict
-  pub looked : Found
+  pub checked : Result Unit Refusal
+  pub looked : Result (Option Found) Refusal
   pub check_ensures : check_of checked ≡ root_check s
-  pub lookup_ensures : outcome looked.answer ≡ lookup_of s id locale unwanted
-  pub key_ensures : looked.key ≡ key_or s (replicate 16 0) (lookup_of s id locale unwanted)
+  pub lookup_ensures : outcome looked ≡ lookup_of s id locale unwanted
+  pub key_ensures : IfOk looked (λ found. IfSome found (λ f. f.key ≡ key_at s f.at))
   -- The premise.
-  pub passed : checked ≡ Passed
+  pub passed : checked ≡ Ok tt
 
 -- What holds of an answer, over the list of all records of the file.
-pub record FindsNumber (s : List ℕ) (id locale unwanted : ℕ) (looked : Found) : Type 0 where
+pub record FindsNumber (s : List ℕ) (id locale unwanted : ℕ) (looked : Result (Option Found) Refusal) : Type 0 where
   -- The first wanted record of all.
   pub first : First
   pub finds_first : FindsFirst (Wanted id locale unwanted) (records s) first
   -- The answer tells where its key stands, or absent; the key's bytes are those of the file there.
-  pub told : outcome looked.answer ≡ key_told first
-  pub key : (at : ℕ) → looked.answer ≡ Key at → looked.key ≡ key_at s at
+  pub told : outcome looked ≡ key_told first
+  pub key : IfOk looked (λ found. IfSome found (λ f. f.key ≡ key_at s f.at))

@@ -1,42 +1,32 @@
 -- `chain::resolve`: by what the root lookup tells.
-use mathlib.Core.Path.{sym, ap, ◌∙◌, ◌≡◌}
-use Rattle.root.specs.Lookup.{outcome}
+use mathlib.Core.Path.{ap, ◌∙◌}
+use lib.ListN.{replicate}
+use Rattle.root.proofs.First.{key-found}
 use Rattle.chain.specs.declared.Link.TheVariants.{Root}
-use Rattle.chain.specs.Chain.{linked, content_key, encoding_told, resolve, told}
-use Rattle.root.specs.declared.Answer.{Answer}
-use Rattle.chain.proofs.resolve.Lts as lts
-use Rattle.chain.proofs.resolve.Tie as tie
+use Rattle.chain.specs.Chain.{linked, content_key, encoding_told, resolve}
 use Rattle.chain.proofs.resolve.Goals as goal
 
--- ---- the root lookup has answered
-
-abbrev Looked : Type 0
-Looked = lts.After-lookup tie.the-claims tie.handed_pre tie.handed_post tie.handed_clauses
-
-abbrev start-at : Looked → lts.Start tie.the-claims tie.handed_pre tie.handed_post tie.handed_clauses
-start-at l = l.before.before.before.before
-
-by-root : (l : Looked) (v : Answer) → l.lookup-found.result.answer ≡ v
-    → let a = (start-at l).args in
+pub returns-in-Ok-Some : goal.returns-in-Ok-Some
+unfolding linked content_key resolve
+returns-in-Ok-Some c =
+    let a = c.args in
     let key = content_key a.root.now a.id a.locale a.unwanted in
-    linked Root (outcome v) (λ values. encoding_told a.encoding.now a.index.now key)
-    ≡ resolve a.root.now a.encoding.now a.index.now a.id a.locale a.unwanted
-unfolding resolve
-by-root l v e =
-    let a = (start-at l).args in
+    let root = rw c.in-Ok-Some.field-0-is at c.in-Ok-Some.ensures.answer_value in
+    let there = rw c.in-Ok-Some.field-0-is at c.in-Ok-Some.ensures.key_value in
+    c.resolve_content_key.ensures ∙ ap (encoding_told _ _) (key-found a.root.now _ (replicate 16 0) _ _ there root)
+    ∙ ap (λ o. linked Root o (λ values. encoding_told a.encoding.now a.index.now key)) root
+
+pub returns-in-Ok-None : goal.returns-in-Ok-None
+unfolding linked resolve
+returns-in-Ok-None c =
+    let a = c.args in
     let key = content_key a.root.now a.id a.locale a.unwanted in
-    ap (λ o. linked Root o (λ values. encoding_told a.encoding.now a.index.now key)) (sym (ap outcome e) ∙ l.lookup-found.ensures.answer_value)
+    let root = rw c.in-Ok-None.field-0-is at c.in-Ok-None.ensures.answer_value in
+    c.absent.ensures ∙ ap (λ o. linked Root o (λ values. encoding_told a.encoding.now a.index.now key)) root
 
-pub returns-in-Refused : goal.returns-in-Refused
-unfolding linked told outcome
-returns-in-Refused c = by-root c.before.before.before _ c.in-Refused.is
-
-pub returns-in-Absent : goal.returns-in-Absent
-unfolding linked told outcome
-returns-in-Absent c = by-root c.before.before.before _ c.in-Absent.is
-
-pub returns-in-Key : goal.returns-in-Key
-unfolding linked content_key outcome
-returns-in-Key c =
-    let looked = c.before.before.before.before.before in
-    c.resolve_content_key.ensures ∙ ap (encoding_told _ _) looked.lookup-found.ensures.key_value ∙ by-root looked _ c.in-Key.is
+pub returns-in-Err : goal.returns-in-Err
+unfolding linked resolve
+returns-in-Err c =
+    let a = c.args in
+    let key = content_key a.root.now a.id a.locale a.unwanted in
+    rw c.refused.ensures (ap (λ o. linked Root o (λ values. encoding_told a.encoding.now a.index.now key)) c.in-Err.ensures.answer_value)

@@ -1,6 +1,7 @@
--- `name_hash::hash_words`: no bytes, a short path and a long one.
+-- `name_hash::hash_words`: no bytes, or some.
+use Rattle.std.proofs.Common.{rules}
 use Rattle.name_hash.proofs.Laws.{hash-none}
 use Rattle.name_hash.proofs.hash_words.Goals as goal
 
-pub returns-then-path-eq0 : goal.returns-then-path-eq0
-returns-then-path-eq0 c = hash-none c.args.path.now c.if-path-eq0.true c.start.ensures
+pub returns-then-is_empty : goal.returns-then-is_empty
+returns-then-is_empty c = hash-none c.args.path.now (search rules) c.start.ensures

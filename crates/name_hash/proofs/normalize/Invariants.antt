@@ -1,11 +1,8 @@
 -- `name_hash::normalize`: after i turns the first i bytes stand in front.
-use Rattle.std.proofs.Common.{◌≡◌, ◌-◌, ◌≤◌, length}
+use Rattle.std.proofs.Common.{◌≡◌}
 use lib.Seq.{paste}
 use Rattle.name_hash.specs.NameHash.{normalized}
 use Rattle.name_hash.proofs.normalize.Given as goal
 
 abbrev pub invariant-loop-i : goal.invariant-loop-i
-invariant-loop-i l = (l.i ≤ length l.path) × (l.room ≡ paste l.initial.room 0 (normalized l.path) l.i) × (length l.room ≡ length l.initial.room)
-
-abbrev pub decreases-loop-i : goal.decreases-loop-i
-decreases-loop-i l = length l.path - l.i
+invariant-loop-i l = l.room ≡ paste l.initial.room 0 (normalized l.path) l.i

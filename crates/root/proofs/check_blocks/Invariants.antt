@@ -4,8 +4,8 @@ use lib.ListN.{length}
 use Rattle.root.proofs.Walk.{Walk, Unchecked}
 use Rattle.root.proofs.check_blocks.Given as goal
 
-abbrev pub invariant-loop-at : goal.invariant-loop-at
-invariant-loop-at l = Walk l.file l.l (Unchecked l.file l.l) l.at
+abbrev pub invariant-loop-place : goal.invariant-loop-place
+invariant-loop-place l = Walk l.file l.l (Unchecked l.file l.l) l.place
 
-abbrev pub decreases-loop-at : goal.decreases-loop-at
-decreases-loop-at l = length l.file - l.at
+abbrev pub decreases-loop-place : goal.decreases-loop-place
+decreases-loop-place l = length l.file - l.place

@@ -1,34 +1,31 @@
 -- `root::judge`: the header, then the blocks.
-use mathlib.Core.Path.{sym, ap, ◌∙◌}
-use Rattle.refusal.proofs.Laws.{first_said, skip, refused-is, passed_is, after-said, after-quiet}
-use Rattle.root_layout.specs.Header.{layout_of, header_check, outcome}
-use Rattle.root_layout.proofs.Laws.{passed-layout, refused-layout}
+use mathlib.Core.Path.{refl, sym, ap, ◌∙◌}
+use Rattle.std.specs.Prelude.{Ok}
+use Rattle.std.proofs.lemmas.Result.{err_from_is_err_and}
+use Rattle.refusal.proofs.Laws.{refusal_first, skip, after-said, after-quiet}
+use Rattle.root_layout.specs.Header.{layout_of, header_check}
+use Rattle.root_layout.proofs.Laws.{passed-layout}
 use Rattle.root.specs.Root.{blocks_by, blocks_check, root_check}
 use Rattle.root.proofs.judge.Goals as goal
 
-pub returns-in-Refused : goal.returns-in-Refused
-unfolding root_check outcome
-returns-in-Refused c =
-    let s = c.args.file.now in
-    let o = c.open-opened in
-    let i = passed-layout (header_check s) _ (layout_of s) o.result o.ensures c.in-Passed.is in
-    let v = c.check_blocks in
-    sym (after-said _ (skip i.0 (refused-is v.result _ (v.ensures ∙ ap (λ l. blocks_check s l (blocks_by s l)) i.1) c.in-Refused.is)))
-
-pub returns-in_default-check_blocks : goal.returns-in_default-check_blocks
+pub returns-in_err-l : goal.returns-in_err-l
 unfolding root_check
-returns-in_default-check_blocks c =
-    let s = c.args.file.now in
-    let o = c.open-opened in
-    let i = passed-layout (header_check s) _ (layout_of s) o.result o.ensures c.in-Passed.is in
-    let v = c.check_blocks in
-    ap outcome (sym c.in-Passed.is) ∙ o.ensures ∙ after-quiet _ i.0
-    ∙ sym (after-quiet _ (skip i.0 (passed_is v.result _ (v.ensures ∙ ap (λ l. blocks_check s l (blocks_by s l)) i.1) c.in_default-check_blocks.is)))
+returns-in_err-l c =
+    let p = err_from_is_err_and c.from_residual.result c.from_residual.ensures.1 in
+    rw (p.1, p.2) (refusal_first (header_check c.args.file.now) _ _ _ c.in_err-l.ensures)
 
-pub returns-in_default : goal.returns-in_default
+pub returns-in_err-check_blocks : goal.returns-in_err-check_blocks
 unfolding root_check
-returns-in_default c =
+returns-in_err-check_blocks c =
     let s = c.args.file.now in
-    let o = c.open-opened in
-    let e = refused-layout (header_check s) (layout_of s) o.result o.ensures c.in_default.is in
-    o.ensures ∙ after-said _ e ∙ sym (after-said _ (first_said _ e))
+    let p = err_from_is_err_and c.from_residual-in_err-check_blocks.result c.from_residual-in_err-check_blocks.ensures.1 in
+    let i = passed-layout (header_check s) _ (layout_of s) (Ok c.in_ok-l.l) c.in_ok-l.ensures refl in
+    rw (p.1, p.2) (sym (after-said _ (skip i.0 (sym (c.in_err-check_blocks.ensures ∙ ap (λ l. blocks_check s l (blocks_by s l)) i.1)))))
+
+pub returns : goal.returns
+unfolding root_check
+returns c =
+    let s = c.args.file.now in
+    let i = passed-layout (header_check s) _ (layout_of s) (Ok c.in_ok-l.l) c.in_ok-l.ensures refl in
+    c.in_ok-l.ensures ∙ after-quiet _ i.0
+    ∙ sym (after-quiet _ (skip i.0 (sym (c.in_ok-check_blocks.ensures ∙ ap (λ l. blocks_check s l (blocks_by s l)) i.1))))

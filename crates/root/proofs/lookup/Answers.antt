@@ -1,64 +1,31 @@
--- `root::lookup`: what is judged, then the search; zeros beside every answer but a key.
-use mathlib.Core.Path.{◌≡◌, refl, sym, ap, ◌∙◌}
-use mathlib.Core.List.{List}
-use Prim.Native.Nat.{ℕ}
-use lib.ListN.{replicate}
-use Rattle.refusal.specs.Check.{silent}
+-- `root::lookup`: what is judged, then the search.
+use mathlib.Core.Path.{refl, sym}
+use Rattle.std.specs.Prelude.{Ok, Err}
+use Rattle.std.proofs.lemmas.Result.{err_from_is_err_and}
 use Rattle.refusal.proofs.Laws.{after-said}
-use Rattle.root_layout.specs.declared.Layout.{Layout}
-use Rattle.root_layout.specs.declared.Opened.{Opened}
-use Rattle.root_layout.specs.declared.Opened.TheVariants.{Passed}
-use Rattle.root_layout.specs.Header as header
 use Rattle.root_layout.specs.Header.{layout_of}
 use Rattle.root_layout.proofs.Laws.{passed-layout, refused-layout}
-use Rattle.root.specs.Root.{root_check, judged_outcome}
-use Rattle.root.specs.declared.Answer.{Answer}
-use Rattle.root.specs.declared.Answer.TheVariants.{Key, Absent, Refused}
-use Rattle.root.specs.Lookup.{lookup_of, key_or, outcome}
-use Rattle.root.proofs.First.{root_passed, search_is, key-laid}
+use Rattle.root.specs.Root.{root_check}
+use Rattle.root.specs.Lookup.{lookup_of}
+use Rattle.root.proofs.First.{root_passed, looked}
 use Rattle.root.proofs.lookup.Goals as goal
 
--- beside an answer that is no key stand zeros
+pub returns-in_err-l-clause-answer_value : goal.returns-in_err-l-clause-answer_value
+unfolding lookup_of
+returns-in_err-l-clause-answer_value c =
+    let s = c.args.file.now in
+    let p = err_from_is_err_and c.from_residual.result c.from_residual.ensures.1 in
+    rw (p.1, p.2) (sym (after-said _ (refused-layout (root_check s) (layout_of s) (Err c.in_err-l.field-0.0) c.in_err-l.ensures refl)))
 
-no_key : (s : List ℕ) (a : Answer) → ((at : ℕ) → a ≡ Key at → ⊥) → replicate 16 0 ≡ key_or s (replicate 16 0) (outcome a)
-unfolding outcome key_or
-no_key s (Key at) e = absurd (e at refl)
-no_key s Absent e = refl
-no_key s (Refused r) e = refl
-
--- a file that is judged silently, and its layout
-judged : (s : List ℕ) (o : Opened) {l : Layout} → header.outcome o ≡ judged_outcome s → o ≡ Passed l → (root_check s ≡ silent) × (l ≡ layout_of s)
-judged s o e p = passed-layout (root_check s) _ (layout_of s) o e p
-
-pub search-answer-requires : goal.search-answer-requires
-search-answer-requires c =
-    let i = judged c.args.file.now c.judge.result c.judge.ensures c.in-Passed.is in
+pub search-requires : goal.search-requires
+search-requires c =
+    let s = c.args.file.now in
+    let i = passed-layout (root_check s) _ (layout_of s) (Ok c.in_ok-l.l) c.in_ok-l.ensures refl in
     root_passed _ _ i.0 i.1
 
 -- what the search answers is what the lookup tells
-
-pub returns-in-Key : goal.returns-in-Key
-unfolding outcome lookup_of key_or
-returns-in-Key c =
-    let a = c.args in
-    let s = a.file.now in
-    let i = judged s c.judge.result c.judge.ensures c.in-Passed.is in
-    let o = search_is s _ a.id a.locale a.unwanted c.search-answer.result _ i.0 i.1 c.in-Key.is c.search-answer.ensures.result_value in
-    let whole = c.search-answer.ensures.key_inside _ c.in-Key.is in
-    record { answer_value = o; key_value = c.key_from-key.ensures ∙ key-laid s _ whole ∙ ap (key_or s (replicate 16 0)) o }
-
-pub returns-in-Refused : goal.returns-in-Refused
-unfolding outcome lookup_of key_or
-returns-in-Refused c =
+pub returns-clause-answer_value : goal.returns-clause-answer_value
+returns-clause-answer_value c =
     let s = c.args.file.now in
-    let o = sym (after-said _ (refused-layout (root_check s) (layout_of s) c.judge.result c.judge.ensures c.in-Refused.is)) in
-    record { answer_value = o; key_value = ap (key_or s (replicate 16 0)) o }
-
-pub returns-in_default : goal.returns-in_default
-unfolding outcome lookup_of key_or
-returns-in_default c =
-    let a = c.args in
-    let s = a.file.now in
-    let i = judged s c.judge.result c.judge.ensures c.in-Passed.is in
-    let o = search_is s _ a.id a.locale a.unwanted c.search-answer.result c.search-answer.result i.0 i.1 refl c.search-answer.ensures.result_value in
-    record { answer_value = o; key_value = no_key s c.search-answer.result c.in_default.not-Key ∙ ap (key_or s (replicate 16 0)) o }
+    let i = passed-layout (root_check s) _ (layout_of s) (Ok c.in_ok-l.l) c.in_ok-l.ensures refl in
+    looked s _ _ _ _ _ i.0 i.1 c.search.ensures.result_value

@@ -1,11 +1,11 @@
 -- `root::search`: the walk, with the records of the blocks that are left; in a block, the records that are left.
 use mathlib.Core.Path.{◌≡◌, refl, sym, ap, ◌∙◌}
 use mathlib.Core.Bool.{Bool}
+use Rattle.std.specs.Prelude.{None}
 use mathlib.Core.List.{List, [], ◌∷◌, ◌++◌}
 use Prim.Native.Nat.{ℕ, ◌+◌, ◌-◌, ◌*◌, ◌<◌, ◌≤◌}
 use native.Mathlib.Omega.{arith}
 use lib.ListN.{length, drop, take, length-drop}
-use borrow.Author.Rules.{rules}
 use Rattle.parts.proofs.Laws.{part_to_end}
 use Rattle.refusal.specs.Check.{silent}
 use Rattle.refusal.specs.Outcome.{answered}
@@ -15,13 +15,11 @@ use Rattle.root_block.specs.Ids.{delta_at}
 use Rattle.root_block.specs.Block as block
 use Rattle.root_block.specs.Block.{block_of, block_size, deltas_of, block_check, counts}
 use Rattle.root_block.proofs.Laws.{block-fits, deltas-length, key-inside}
-use Rattle.root_block.proofs.Reckoned.{delta-is}
-use Rattle.root.specs.declared.Answer.TheVariants.{Key, Absent}
 use Rattle.root.specs.Root.{size_at}
-use Rattle.root.specs.Lookup.{Record, record_at, records_from, first_of, wanted, key_told, outcome}
+use Rattle.root.specs.Lookup.{Record, record_at, records_from, first_of, wanted, key_told, found_told}
 use Rattle.root.proofs.Walk.{Walk, walk_start, size-some, walk_here, walk-next, walk_end}
 use Rattle.root.proofs.First.{passing-none, passing-all, last_fits, next_fits, passing-next, passing-found, block-skipped}
-use Rattle.root.proofs.First.{Unsearched, block-passed, found_here, search-on, search-ended, uncounted, number-other, number-found}
+use Rattle.root.proofs.First.{Unsearched, block-passed, found_here, search-on, search-ended, uncounted, number-other, number-found, key-laid}
 use Rattle.root.proofs.search.Goals as goal
 use Rattle.root.proofs.search.Goals.{then-counts+else-loop-i-test, else-counts}
 
@@ -69,63 +67,41 @@ module _ (s : List ℕ) (l : Layout) (at : ℕ) where
       let whole = key-inside l (block_of l (drop at s)) i (omega arith) in
       omega (arith, key-is key i k q e, whole, inside p, h)
 
-absent-key : (at : ℕ) → Absent ≡ Key at → ⊥
-absent-key at e = let z : ◌≡◌ {A = ℕ} 0 1 = cc in omega arith
-
-key-same : (a b : ℕ) → Key a ≡ Key b → a ≡ b
-key-same a b e = cc
-
 -- ---- the goals
 
 pub blocks-2-init : goal.blocks-2-init
 blocks-2-init c = (refl, walk_start _ _ (Unsearched _ _ _) (c.requires, refl))
 
 pub loop-i-init : goal.loop-i-init
-loop-i-init c = (omega arith, (c.blocks-2.invariant.0, passing-none _ _ _ _ _))
-
-pub bounds-deltas-d : goal.bounds-deltas-d
-bounds-deltas-d c =
-    let s = c.args.file.now in
-    let p = passed s c.args.l c.blocks-2.at (wanted c.args.id c.args.locale c.args.unwanted) c.blocks-2-test.true c.blocks-2.invariant.1 in
-    omega (arith, long s c.args.l c.blocks-2.at p c.read-block.result c.read-block.ensures c.deltas-deltas.result.now c.deltas-deltas.ensures, c.loop-i-test.true)
-
-pub bounds-deltas-d-in-loop-i : goal.bounds-deltas-d-in-loop-i
-bounds-deltas-d-in-loop-i c =
-    let s = c.args.file.now in
-    let p = passed s c.args.l c.blocks-2.at (wanted c.args.id c.args.locale c.args.unwanted) c.blocks-2-test.true c.blocks-2.invariant.1 in
-    omega (arith, long s c.args.l c.blocks-2.at p c.read-block.result c.read-block.ensures c.deltas-deltas.result.now c.deltas-deltas.ensures, c.loop-i-test.true)
-
-pub bounds-deltas-d-in-loop-i-2 : goal.bounds-deltas-d-in-loop-i-2
-bounds-deltas-d-in-loop-i-2 c =
-    let s = c.args.file.now in
-    let p = passed s c.args.l c.blocks-2.at (wanted c.args.id c.args.locale c.args.unwanted) c.blocks-2-test.true c.blocks-2.invariant.1 in
-    omega (arith, long s c.args.l c.blocks-2.at p c.read-block.result c.read-block.ensures c.deltas-deltas.result.now c.deltas-deltas.ensures, c.loop-i-test.true)
-
-pub bounds-deltas-d-in-loop-i-3 : goal.bounds-deltas-d-in-loop-i-3
-bounds-deltas-d-in-loop-i-3 c =
-    let s = c.args.file.now in
-    let p = passed s c.args.l c.blocks-2.at (wanted c.args.id c.args.locale c.args.unwanted) c.blocks-2-test.true c.blocks-2.invariant.1 in
-    omega (arith, long s c.args.l c.blocks-2.at p c.read-block.result c.read-block.ensures c.deltas-deltas.result.now c.deltas-deltas.ensures, c.loop-i-test.true)
+loop-i-init c = (c.blocks-2.invariant.0, passing-none _ _ _ _ _)
 
 pub overflow_add-last : goal.overflow_add-last
 overflow_add-last c =
     let s = c.args.file.now in
-    let p = passed s c.args.l c.blocks-2.at (wanted c.args.id c.args.locale c.args.unwanted) c.blocks-2-test.true c.blocks-2.invariant.1 in
-    last_fits c.loop-i.last-bits c.loop-i.invariant.1.1 p (count-is s c.args.l c.blocks-2.at c.read-block.result c.read-block.ensures) c.loop-i-test.true
-    c.delta-step.result c.delta-step.type_inv
+    let l = c.args.l in
+    let at = c.blocks-2.at in
+    let p = passed s l at (wanted c.args.id c.args.locale c.args.unwanted) c.blocks-2-test.true c.blocks-2.invariant.1 in
+    last_fits c.loop-i.last-bits c.loop-i.invariant.1 p (count-is s l at c.read-block.result c.read-block.ensures) c.loop-i-test.true
+    c.delta_at-step.result c.delta_at-step.type_inv
 
 pub overflow_add-last-in-loop-i : goal.overflow_add-last-in-loop-i
 overflow_add-last-in-loop-i c =
     let s = c.args.file.now in
-    let p = passed s c.args.l c.blocks-2.at (wanted c.args.id c.args.locale c.args.unwanted) c.blocks-2-test.true c.blocks-2.invariant.1 in
-    next_fits c.loop-i.last-bits c.loop-i.invariant.1.1 p (count-is s c.args.l c.blocks-2.at c.read-block.result c.read-block.ensures) c.loop-i-test.true
-    c.delta-step.result c.delta-step.type_inv
+    let l = c.args.l in
+    let at = c.blocks-2.at in
+    let p = passed s l at (wanted c.args.id c.args.locale c.args.unwanted) c.blocks-2-test.true c.blocks-2.invariant.1 in
+    rw c.from.ensures
+    (next_fits c.loop-i.last-bits c.loop-i.invariant.1 p (count-is s l at c.read-block.result c.read-block.ensures) c.loop-i-test.true
+    c.delta_at-step.result c.delta_at-step.type_inv)
 
-pub overflow_add-answer : goal.overflow_add-answer
-overflow_add-answer c =
+pub overflow_add-place : goal.overflow_add-place
+overflow_add-place c =
     let s = c.args.file.now in
-    let p = passed s c.args.l c.blocks-2.at (wanted c.args.id c.args.locale c.args.unwanted) c.blocks-2-test.true c.blocks-2.invariant.1 in
-    let whole = key-whole s c.args.l c.blocks-2.at p c.blocks-2-test.true c.key_at.result c.loop-i.i c.read-block.result c.loop-i-test.true c.key_at.ensures.value c.read-block.ensures in
+    let l = c.args.l in
+    let at = c.blocks-2.at in
+    let p = passed s l at (wanted c.args.id c.args.locale c.args.unwanted) c.blocks-2-test.true c.blocks-2.invariant.1 in
+    let whole =
+    key-whole s l at p c.blocks-2-test.true c.key_at.result c.loop-i.i c.read-block.result c.loop-i-test.true c.key_at.ensures.value c.read-block.ensures in
     record { fits = omega (arith, whole, c.well_formed) }
 
 pub loop-i-preserved : goal.loop-i-preserved
@@ -133,20 +109,18 @@ loop-i-preserved c =
     let s = c.args.file.now in
     let l = c.args.l in
     let at = c.blocks-2.at in
-    let i = c.loop-i.i in
     let e = passed s l at (wanted c.args.id c.args.locale c.args.unwanted) c.blocks-2-test.true c.blocks-2.invariant.1 in
     let n = count-is s l at c.read-block.result c.read-block.ensures in
-    let here = sym (counted s l at c.read-block.result c.read-block.ensures c.args.locale c.args.unwanted c.counts.result c.counts.ensures) ∙ c.if-counts.true in
-    let d = c.deltas-deltas.result.now in
-    let step-is = delta-is d i (4 * i) c.delta-step.result refl c.delta-step.ensures ∙ ap (λ x. delta_at x i) (deltas-are s l at d c.deltas-deltas.ensures) in
+    let here =
+    sym (counted s l at c.read-block.result c.read-block.ensures c.args.locale c.args.unwanted c.counts.result c.counts.ensures) ∙ c.if-counts.true in
+    let step-is = c.delta_at-step.ensures ∙ ap (λ x. delta_at x c.loop-i.i) (deltas-are s l at c.deltas-deltas.result.now c.deltas-deltas.ensures) in
     let p = c.loop-i.invariant.1 in
-    let less = c.loop-i-test.true in (
-      search rules,
-      (
-        p.0,
-        passing-next c.loop-i.last-bits p.1 e n less c.delta-step.result c.delta-step.type_inv step-is
-            (number-other c.loop-i.last-bits p.1 e n less c.delta-step.result c.delta-step.type_inv step-is _ _ _ here c.if-last-sought.false),
-      ),
+    let less = c.loop-i-test.true in
+    let other = rw (c.from.ensures, c.from-sought.ensures) at c.if-last-sought.false in (
+      c.loop-i.invariant.0,
+      rw c.from.ensures
+          (passing-next c.loop-i.last-bits p e n less c.delta_at-step.result c.delta_at-step.type_inv step-is
+          (number-other c.loop-i.last-bits p e n less c.delta_at-step.result c.delta_at-step.type_inv step-is _ _ _ here other)),
     )
 
 pub overflow_add-at : goal.overflow_add-at
@@ -176,11 +150,11 @@ blocks-2-preserved c =
     let want = wanted c.args.id c.args.locale c.args.unwanted in
     let m = moved s l at c.size-at.result k c.size-at.ensures c.read-block.ensures in
     let counted-here = counted s l at k c.read-block.ensures c.args.locale c.args.unwanted c.counts.result c.counts.ensures in
-    let n : (c.if-counts.answer ≡ Absent) × ((tail : List Record) → first_of want (records_from s l at 0 k.count ++ tail) ≡ first_of want tail) =
+    let n : (c.if-counts.found ≡ None) × ((tail : List Record) → first_of want (records_from s l at 0 k.count ++ tail) ≡ first_of want tail) =
     elim c.if-counts.branch [
-      | then-counts+else-loop-i-test w ↦ (w.answer-is ∙ w.loop-i.invariant.1.0, passing-all w.loop-i.invariant.1.1 (omega (arith, w.loop-i.invariant.0, w.loop-i-test.false)))
+      | then-counts+else-loop-i-test w ↦ (w.found-is ∙ w.loop-i.invariant.0, passing-all w.loop-i.invariant.1 (omega arith))
       | else-counts w ↦ (
-        w.answer-is ∙ c.blocks-2.invariant.0,
+        w.found-is ∙ c.blocks-2.invariant.0,
         block-skipped s l want at (uncounted _ _ _ _ _ _ (sym counted-here ∙ w.if-counts.false)) 0 _,
       )
     ] in (
@@ -191,14 +165,14 @@ blocks-2-preserved c =
     )
 
 pub returns-after-blocks-2 : goal.returns-after-blocks-2
-unfolding outcome key_told
+unfolding key_told
 returns-after-blocks-2 c =
     let a = c.blocks-2.invariant.0 in
     let ended = search-ended _ _ _ (walk_end _ _ (Unsearched _ _ _) _ c.blocks-2-test.false c.blocks-2.invariant.1) in
-    record { result_value = ap outcome a ∙ sym (ap key_told ended); key_inside = λ at e. absurd (absent-key at (sym a ∙ e)) }
+    record { result_value = ap found_told a ∙ sym (ap key_told ended); key_value = rw a tt }
 
 pub returns-then-last-sought : goal.returns-then-last-sought
-unfolding outcome key_told record_at
+unfolding key_told record_at
 returns-then-last-sought c =
     let s = c.args.file.now in
     let l = c.args.l in
@@ -209,15 +183,15 @@ returns-then-last-sought c =
     let e = passed s l at want c.blocks-2-test.true c.blocks-2.invariant.1 in
     let n = count-is s l at k c.read-block.ensures in
     let here = sym (counted s l at k c.read-block.ensures c.args.locale c.args.unwanted c.counts.result c.counts.ensures) ∙ c.if-counts.true in
-    let d = c.deltas-deltas.result.now in
-    let step-is = delta-is d i (4 * i) c.delta-step.result refl c.delta-step.ensures ∙ ap (λ x. delta_at x i) (deltas-are s l at d c.deltas-deltas.ensures) in
-    let p = c.loop-i.invariant.1.1 in
+    let step-is = c.delta_at-step.ensures ∙ ap (λ x. delta_at x i) (deltas-are s l at c.deltas-deltas.result.now c.deltas-deltas.ensures) in
+    let p = c.loop-i.invariant.1 in
     let less = c.loop-i-test.true in
     let w = walk_here s l (Unsearched s l want) at c.blocks-2-test.true c.blocks-2.invariant.1 in
-    let this-one = number-found c.loop-i.last-bits p e n less c.delta-step.result c.delta-step.type_inv step-is _ _ _ here c.if-last-sought.true in
-    let first = found_here s l want at _ w _ n ∙ passing-found c.loop-i.last-bits p e n less c.delta-step.result c.delta-step.type_inv this-one _ in
+    let same = rw (c.from.ensures, c.from-sought.ensures) at c.if-last-sought.true in
+    let this-one = number-found c.loop-i.last-bits p e n less c.delta_at-step.result c.delta_at-step.type_inv step-is _ _ _ here same in
+    let first = found_here s l want at _ w _ n ∙ passing-found c.loop-i.last-bits p e n less c.delta_at-step.result c.delta_at-step.type_inv this-one _ in
     let key = key-is s l at c.key_at.result i k c.key_at.ensures.value c.read-block.ensures in
     let whole = key-whole s l at e c.blocks-2-test.true c.key_at.result i k less c.key_at.ensures.value c.read-block.ensures in record {
       result_value = ap (λ k. answered ((at + k) ∷ [])) key ∙ sym (ap key_told first);
-      key_inside = λ q e. omega (arith, whole, key-same _ q e);
+      key_value = c.key_from.ensures ∙ key-laid s (at + c.key_at.result) whole;
     }

@@ -5,8 +5,8 @@ use Rattle.root_calls.proofs.look.Goals as goal
 pub returns : goal.returns
 returns c =
     let a = c.args in
-    let check = c.check-checked in
-    let lookup = c.lookup-found in record {
+    let check = c.check in
+    let lookup = c.lookup in record {
       checked_value = check.ensures;
       answer_value = lookup.ensures.answer_value;
       finds_number = λ p. finds-number a.file.now a.id a.locale a.unwanted (record {

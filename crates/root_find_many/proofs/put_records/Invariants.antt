@@ -1,11 +1,6 @@
 -- `root_find_many::put_records`: the records of a block, one after the other.
-use Prim.Native.Nat.{◌-◌, ◌≤◌}
 use Rattle.root_find_many.proofs.Seen.{Passing}
 use Rattle.root_find_many.proofs.put_records.Given as goal
 
 abbrev pub invariant-loop-i : goal.invariant-loop-i
-invariant-loop-i l =
-    (l.i ≤ l.count) × Passing l.file l.l l.at l.i l.last l.ids l.initial.output l.output
-
-abbrev pub decreases-loop-i : goal.decreases-loop-i
-decreases-loop-i l = l.count - l.i
+invariant-loop-i l = Passing l.file l.l l.at l.i l.last l.ids l.initial.output l.output

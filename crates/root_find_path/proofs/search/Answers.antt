@@ -17,13 +17,12 @@ use Rattle.root_block.proofs.Laws.{block-fits, block-ids, deltas-length, key-ins
 use Rattle.root.specs.Root.{size_at, blocks_after}
 use Rattle.root.specs.Lookup.{Record, record_at, records_from, first_of}
 use Rattle.root.proofs.Walk.{Walk, walk_start, size-some, walk_here, walk-next, walk_end}
-use Rattle.root.proofs.First.{Unsearched, block-passed, block-skipped, found_here, search-on, search-ended}
-use Rattle.root_find_path.specs.declared.Answer.TheVariants as answer
-use Rattle.root_find_path.specs.Path.{is_searched, named, id_number, record_told, outcome}
+use Rattle.root.proofs.First.{Unsearched, block-passed, block-skipped, found_here, search-on, search-ended, key-laid}
+use Rattle.root_find_path.specs.Path.{is_searched, named, id_number, record_told}
 use Rattle.root_find_path.specs.Records.{Whole, FirstWith, Judged}
 use Rattle.root_find_path.proofs.Laws.{searched-hashes, first-of, unsearched, block-found, block_none}
 use Rattle.root_find_path.proofs.search.Goals as goal
-use Rattle.root_find_path.proofs.search.Goals.{then-is_searched+else-i-block, else-is_searched}
+use Rattle.root_find_path.proofs.search.Goals.{then-is_searched+in_default, else-is_searched}
 
 -- ---- the block at hand: that it passes, its header, whether it is searched
 
@@ -92,19 +91,13 @@ module _ (s : List ℕ) (l : Layout) (at : ℕ) where
             let there : i < block_at.count = omega (arith, less, count-is) in
             omega (arith, key-is, key-inside l block_at i there, inside p, h)
 
-no_record : (id at : ℕ) → answer.Absent ≡ answer.Record id at → ⊥
-no_record id at e = let z : ◌≡◌ {A = ℕ} 0 1 = cc in omega arith
-
-key-same : (a b i j : ℕ) → answer.Record i a ≡ answer.Record j b → a ≡ b
-key-same a b i j e = cc
-
 -- ---- the goals
 
 pub loop-at-init : goal.loop-at-init
 loop-at-init c = walk_start _ _ (Unsearched _ _ _) (c.requires, refl)
 
-pub record_with-i-requires : goal.record_with-i-requires
-record_with-i-requires c =
+pub record_with-requires : goal.record_with-requires
+record_with-requires c =
     let a = c.args in
     let s = a.file.now in
     let at = c.loop-at.at in
@@ -113,44 +106,45 @@ record_with-i-requires c =
     let t = sym (searched-is s a.l at k c.read-block.ensures a.locale a.unwanted c.is_searched.result c.is_searched.ensures) ∙ c.if-is_searched.true in
     whole s a.l at k c.read-block.ensures p a.locale a.unwanted t
 
-pub id_at-id-requires : goal.id_at-id-requires
-id_at-id-requires c =
+pub id_at-id-requires-clause-judged : goal.id_at-id-requires-clause-judged
+id_at-id-requires-clause-judged c =
     let a = c.args in
     let s = a.file.now in
     let at = c.loop-at.at in
     let p = passed s a.l at (named a.l a.hash a.locale a.unwanted) c.loop-at-test.true c.loop-at.invariant in
-    record { judged = judged s a.l at c.read-block.result c.read-block.ensures p c.deltas.result.now c.deltas.ensures; i_lt_count = c.if-i-block.true }
+    judged s a.l at c.read-block.result c.read-block.ensures p c.deltas.result.now c.deltas.ensures
 
-pub overflow_add-result : goal.overflow_add-result
-overflow_add-result c =
+pub overflow_add-place : goal.overflow_add-place
+overflow_add-place c =
     let a = c.args in
     let s = a.file.now in
     let at = c.loop-at.at in
     let p = passed s a.l at (named a.l a.hash a.locale a.unwanted) c.loop-at-test.true c.loop-at.invariant in
-    let key = key-whole s a.l at c.read-block.result c.read-block.ensures p c.record_with-i.result c.key_at.result c.key_at.ensures.value c.loop-at-test.true c.if-i-block.true in
+    let key =
+    key-whole s a.l at c.read-block.result c.read-block.ensures p c.in-Some.i c.key_at.result c.key_at.ensures.value c.loop-at-test.true c.in-Some.ensures.0 in
     record { fits = omega (arith, key, c.well_formed) }
 
-pub returns-then-i-block : goal.returns-then-i-block
-unfolding outcome id_number record_told record_at
-returns-then-i-block c =
+pub returns-in-Some : goal.returns-in-Some
+unfolding id_number record_told record_at
+returns-in-Some c =
     let a = c.args in
     let s = a.file.now in
     let l = a.l in
     let at = c.loop-at.at in
     let k = c.read-block.result in
     let e = c.read-block.ensures in
-    let i = c.record_with-i.result in
+    let i = c.in-Some.i in
     let want = named l a.hash a.locale a.unwanted in
     let p = passed s l at want c.loop-at-test.true c.loop-at.invariant in
     let t = sym (searched-is s l at k e a.locale a.unwanted c.is_searched.result c.is_searched.ensures) ∙ c.if-is_searched.true in
-    let less : i < (block_at s l at).count = omega (arith, c.if-i-block.true, count-is s l at k e) in
+    let less : i < (block_at s l at).count = omega (arith, c.in-Some.ensures.0, count-is s l at k e) in
     let first = found_here s l want at _ (left s l at want c.loop-at-test.true c.loop-at.invariant) _ refl
-    ∙ block-found _ _ _ _ _ _ t (first-with s l at k e a.hash i c.record_with-i.ensures) less _ in
+    ∙ block-found _ _ _ _ _ _ t (first-with s l at k e a.hash i c.in-Some.ensures.1) less _ in
     let id = ap id_number (c.id_at-id.ensures ∙ ap (λ d. id_at d i) (deltas-are s l at k e p c.deltas.result.now c.deltas.ensures)) in
     let key = key-is s l at k e p i c.key_at.result c.key_at.ensures.value in
-    let whole-key = key-whole s l at k e p i c.key_at.result c.key_at.ensures.value c.loop-at-test.true c.if-i-block.true in record {
+    let whole-key = key-whole s l at k e p i c.key_at.result c.key_at.ensures.value c.loop-at-test.true c.in-Some.ensures.0 in record {
       result_value = ap₂ (λ n x. answered (n ∷ (at + x) ∷ [])) id key ∙ sym (ap record_told first);
-      key_inside = λ n x q. omega (arith, whole-key, key-same _ x _ n q);
+      key_value = c.key_from.ensures ∙ key-laid s (at + c.key_at.result) whole-key;
     }
 
 pub overflow_add-at : goal.overflow_add-at
@@ -182,16 +176,15 @@ loop-at-preserved c =
     let searched = searched-is s l at k e a.locale a.unwanted c.is_searched.result c.is_searched.ensures in
     let none : (tail : List Record) → first_of want (records_from s l at 0 (block_at s l at).count ++ tail) ≡ first_of want tail =
     elim c.if-is_searched.branch [
-      | then-is_searched+else-i-block w ↦ block_none _ _ _ _ _ _ (sym searched ∙ w.if-is_searched.true)
-          (first-with s l at k e a.hash w.record_with-i.result w.record_with-i.ensures) (omega (arith, w.if-i-block.false, count-is s l at k e))
+      | then-is_searched+in_default w ↦ block_none _ _ _ _ _ _ (sym searched ∙ w.if-is_searched.true)
+          (first-with s l at k e a.hash k.count w.in_default.ensures) (omega (arith, count-is s l at k e))
       | else-is_searched w ↦ block-skipped s l want at (unsearched _ _ _ _ _ _ (sym searched ∙ w.if-is_searched.false)) 0 _
     ] in
     rw (moved s l at k e c.size-at.result c.size-at.ensures)
     (walk-next s l (Unsearched s l want) at c.loop-at-test.true c.loop-at.invariant
     (λ rest u. search-on s l want at rest u _ refl none))
 
-pub returns : goal.returns
-unfolding outcome record_told
-returns c =
-    let ended = search-ended _ _ _ (walk_end _ _ (Unsearched _ _ _) _ c.loop-at-test.false c.loop-at.invariant) in
-    record { result_value = sym (ap record_told ended); key_inside = λ id at e. absurd (no_record id at e) }
+pub returns-clause-result_value : goal.returns-clause-result_value
+unfolding record_told
+returns-clause-result_value c =
+    sym (ap record_told (search-ended _ _ _ (walk_end _ _ (Unsearched _ _ _) _ c.loop-at-test.false c.loop-at.invariant)))

@@ -5,9 +5,9 @@ use Rattle.root_find_path_calls.proofs.look.Goals as goal
 pub returns : goal.returns
 returns c =
     let a = c.args in
-    let check = c.check-checked in
-    let hash = c.hash-hashed in
-    let found = c.find_path-found in record {
+    let check = c.check in
+    let hash = c.hash in
+    let found = c.find_path in record {
       checked_value = check.ensures;
       hashed_value = hash.ensures;
       answer_value = found.ensures.answer_value;

@@ -8,19 +8,19 @@ use Rattle.root_find_many.proofs.Laid.{blank, zeros-none, zeros-next, zeros-all}
 use Rattle.root_find_many.proofs.entries.clear.Goals as goal
 
 pub loop-i-init : goal.loop-i-init
-loop-i-init c = (omega arith, zeros-none _)
+loop-i-init c = zeros-none _
 
 pub loop-i-preserved : goal.loop-i-preserved
 loop-i-preserved c =
     let l = c.loop-i in
-    (omega arith, c.copy.ensures ∙ zeros-next _ l.i _ l.invariant.1)
+    c.copy.ensures ∙ zeros-next _ l.i _ l.invariant
 
 pub shape_of-output : goal.shape_of-output
-shape_of-output c = ap length c.loop-i.invariant.1 ∙ overlay-length _ 0 _
+shape_of-output c = ap length c.loop-i.invariant ∙ overlay-length _ 0 _
 
 pub returns : goal.returns
 returns c =
     let l = c.loop-i in
     let all : l.i ≡ c.args.count = omega arith in
     let out = c.args.output.now in
-    zeros-all out _ _ c.requires (l.invariant.1 ∙ ap (λ n. overlay out 0 (parts_from blank 0 n)) all)
+    zeros-all out _ _ c.requires (l.invariant ∙ ap (λ n. overlay out 0 (parts_from blank 0 n)) all)

@@ -1,12 +1,8 @@
 -- `root_find_many::entries::clear`: one entry of zeros more at each turn.
 use mathlib.Core.Path.{◌≡◌}
-use Prim.Native.Nat.{◌-◌, ◌≤◌}
 use Rattle.parts.specs.Part.{overlay, parts_from}
 use Rattle.root_find_many.proofs.Laid.{blank}
 use Rattle.root_find_many.proofs.entries.clear.Given as goal
 
 abbrev pub invariant-loop-i : goal.invariant-loop-i
-invariant-loop-i l = (l.i ≤ l.count) × (l.output ≡ overlay l.initial.output 0 (parts_from blank 0 l.i))
-
-abbrev pub decreases-loop-i : goal.decreases-loop-i
-decreases-loop-i l = l.count - l.i
+invariant-loop-i l = l.output ≡ overlay l.initial.output 0 (parts_from blank 0 l.i)

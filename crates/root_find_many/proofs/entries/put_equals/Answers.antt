@@ -24,7 +24,8 @@ loop-output-init c =
 
 pub overflow_mul-i : goal.overflow_mul-i
 overflow_mul-i c =
-    omega (arith, (here c.args.ids.now c.loop-output.i c.args.id c.stands.result c.stands.ensures c.loop-output-test.true).0, c.requires.room.room, c.well_formed)
+    let h = here c.args.ids.now c.loop-output.i c.args.id c.stands.result c.stands.ensures c.loop-output-test.true in
+    omega (arith, h.0, c.requires.room.room, c.well_formed)
 
 pub overflow_add-i : goal.overflow_add-i
 overflow_add-i c = omega (arith, (here c.args.ids.now c.loop-output.i c.args.id c.stands.result c.stands.ensures c.loop-output-test.true).0)

@@ -24,7 +24,8 @@ returns-then-not-stands c =
 
 pub overflow_mul-at : goal.overflow_mul-at
 overflow_mul-at c =
-    omega (arith, (here c.args.ids.now c.place-at.result c.args.id c.stands.result c.stands.ensures c.if-not-stands.false).0, c.requires.room.room, c.well_formed)
+    let h = here c.args.ids.now c.place-at.result c.args.id c.stands.result c.stands.ensures c.if-not-stands.false in
+    omega (arith, h.0, c.requires.room.room, c.well_formed)
 
 pub bounds-output-at : goal.bounds-output-at
 bounds-output-at c =

@@ -1,8 +1,7 @@
--- `root_find_path::records::hash_in`: the low four bytes, then the high four.
-use Rattle.root_find_path.proofs.Laws.{hash-halves}
+-- `root_find_path::records::hash_in`: the lowest byte first.
+use native.Mathlib.Omega.{arith}
+use Rattle.root_find_path.proofs.Laws.{hash-is}
 use Rattle.root_find_path.proofs.records.hash_in.Goals as goal
 
 pub returns : goal.returns
-returns c =
-    let a = c.args in
-    hash-halves a.bytes.now a.at c.number_of-low.result c.number_of-high.result c.number_of-low.ensures c.number_of-high.ensures
+returns c = omega (arith, c.from_le_bytes.ensures, hash-is c.args.bytes.now c.args.at)

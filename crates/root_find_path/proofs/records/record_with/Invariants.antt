@@ -1,11 +1,8 @@
 -- `root_find_path::records::record_with`: no record before the one at hand has the name hash.
-use Prim.Native.Nat.{◌-◌, ◌≤◌}
+use mathlib.Core.Path.{◌≡◌}
+use Prim.Native.Nat.{ℕ, ◌<◌}
 use Rattle.root_find_path.specs.Records.{hash_of}
-use Rattle.root_find_path.proofs.Laws.{Passed}
 use Rattle.root_find_path.proofs.records.record_with.Given as goal
 
 abbrev pub invariant-loop-i : goal.invariant-loop-i
-invariant-loop-i l = (l.i ≤ l.count) × Passed (hash_of l.bytes l.l l.block) l.hash l.i
-
-abbrev pub decreases-loop-i : goal.decreases-loop-i
-decreases-loop-i l = l.count - l.i
+invariant-loop-i l = (j : ℕ) → j < l.i → hash_of l.bytes l.l l.block j ≡ l.hash → ⊥
