@@ -14,8 +14,9 @@ use Rattle.numbers.proofs.Laws.{within-inside}
 use Rattle.refusal.specs.Outcome.{Outcome, answered}
 use Rattle.text.specs.Text.{decimal_digits, decimal, reads}
 use Rattle.text.proofs.Decimal.{decimal-read}
-use Rattle.file_number.specs.declared.Told.{Told}
-use Rattle.file_number.specs.declared.Told.TheVariants.{Number}
+use Prim.{tt}
+use Rattle.std.specs.Prelude.{Result, Ok, Err, IfOk}
+use Rattle.file_number.specs.declared.Fault.{Fault}
 use Rattle.file_number.specs.FileNumber as spec
 use Rattle.file_number.specs.FileNumber.{most_number, wrong_at, is_digit, digits_of, fitting, bounded_number, has_leading_zero, file_number_of, outcome}
 use Rattle.file_number.proofs.Laws.{Digit, digit-range, one_byte, other_byte, told-number}
@@ -119,7 +120,6 @@ passed true what place o values e = absurd (let z : ◌≡◌ {A = ℕ} 0 1 = cc
 passed false what place o values e = (refl, e)
 
 pub written : (text : List ℕ) (n : ℕ) → file_number_of text ≡ answered (n ∷ []) → (decimal n ≡ text) × (n ≤ most_number)
-unfolding file_number_of bounded_number
 written text n e =
     let a = passed (ltb (length text) 1) _ _ _ _ e in
     let b = passed (has_leading_zero text) _ _ _ _ a.1 in
@@ -132,10 +132,9 @@ written text n e =
       subst (λ m. m ≤ most_number) same most,
     )
 
-pub told-written : (r : Told) (text : List ℕ) → outcome r ≡ file_number_of text → (n : ℕ) → r ≡ Number n
-    → (decimal n ≡ text) × (n ≤ most_number)
-unfolding outcome
-told-written r text e n h = written text n (sym e ∙ ap outcome h)
+pub told_written : (text : List ℕ) (r : Result ℕ Fault) → outcome r ≡ file_number_of text → IfOk r (λ n. (decimal n ≡ text) × (n ≤ most_number))
+told_written text (Ok n) e = written text n (sym e)
+told_written text (Err f) e = tt
 
 -- ---- the number of a decimal text
 
@@ -191,7 +190,6 @@ no-leading-zero n h =
     (λ t. other_byte (decimal n) (first-digit 20 n (omega (arith, ltb-false n 10 t)) (omega arith)))
 
 pub read_back : (n : ℕ) → n ≤ most_number → file_number_of (decimal n) ≡ answered (n ∷ [])
-unfolding bounded_number
 read_back n h =
     let same : reads 0 (decimal n) ≡ n = decimal-read n (omega arith) in
     let fits : length (decimal n) ≤ fitting 0 (decimal n) = most-fitting (decimal n) 0 (subst (λ m. m ≤ most_number) (sym same) h) in

@@ -1,12 +1,12 @@
 -- Laws of the digits of a text, one after the other.
-use mathlib.Core.Path.{◌≡◌, refl, sym, ◌∙◌}
-use mathlib.Core.Bool.{true, false, and-false}
+use mathlib.Core.Path.{◌≡◌, ◌∙◌}
+use mathlib.Core.Bool.{false, and-false}
 use mathlib.Core.List.{List, [], ◌∷◌}
 use Prim.Native.Nat.{ℕ, zero, suc, ◌+◌, ◌-◌, ◌*◌, ◌≤◌, ◌<◌}
 use native.Mathlib.Nat.{add-zero, not-suc-le-zero, le_of_suc-le-suc}
 use native.Mathlib.Numerals.{add-one}
 use native.Mathlib.Omega.{arith}
-use borrow.Author.Tests.{lt-ltb, le-ltb, lt-leb, le-leb, eq-eqb, ne_eqb}
+use borrow.Author.Tests.{lt-ltb, le-ltb, lt-leb, le-leb, ne_eqb}
 use lib.Dec.{ltb}
 use lib.ListN.{length, drop, drop_of_length-le}
 use lib.Seq.{drop-cons}
@@ -15,7 +15,7 @@ use Rattle.parts.proofs.Laws.{by-test}
 use Rattle.numbers.proofs.Laws.{within-range}
 use Rattle.refusal.specs.Outcome.{answered}
 use Rattle.text.specs.Text.{reads}
-use Rattle.file_number.specs.FileNumber.{most_number, empty, leading_zero, no_digit, too_great, wrong_at}
+use Rattle.file_number.specs.FileNumber.{most_number, too_great, wrong_at}
 use Rattle.file_number.specs.FileNumber.{is_digit, digits_of, fitting, bounded_number, has_leading_zero, file_number_of}
 
 pub behind : (text : List ℕ) (at : ℕ) → at < length text → drop at text ≡ byte_at text at ∷ drop (at + 1) text
@@ -25,27 +25,6 @@ behind text at l = rw add-one (drop-cons text at 0 l)
 
 abbrev pub Digit : ℕ → Type 0
 Digit b = (48 ≤ b) × (b ≤ 57)
-
--- The bytes before a place are digits.
-pub record Digits (text : List ℕ) (at : ℕ) : Type 0 where
-  pub inside : at ≤ length text
-  pub count : digits_of text ≡ at + digits_of (drop at text)
-
-pub digits-none : (text : List ℕ) → Digits text 0
-digits-none text = record { inside = omega arith; count = omega arith }
-
-module _ {text : List ℕ} {at : ℕ} (d : Digits text at) where
-  pub digit-wrong : at < length text → is_digit (byte_at text at) ≡ false → at ≡ digits_of text
-  unfolding digits_of
-  digit-wrong l h = sym (d.count ∙ rw (behind text at l, h) (add-zero at))
-
-  pub digit-right : at < length text → is_digit (byte_at text at) ≡ true → Digits text (at + 1)
-  unfolding digits_of
-  digit-right l h = record { inside = omega arith; count = d.count ∙ rw (behind text at l, h) (omega arith) }
-
-  pub digits-all : length text ≤ at → at ≡ digits_of text
-  unfolding digits_of
-  digits-all h = sym (d.count ∙ rw (drop_of_length-le text h) (add-zero at))
 
 pub digit-range : (text : List ℕ) → length text ≤ digits_of text → (i : ℕ) → i < length text → Digit (byte_at text i)
 unfolding digits_of
@@ -63,12 +42,9 @@ pub record Sum (text : List ℕ) (n at : ℕ) : Type 0 where
   pub fits : fitting 0 text ≡ at + fitting n (drop at text)
   pub number : reads 0 text ≡ reads n (drop at text)
 
-pub sum-none : (text : List ℕ) → Sum text 0 0
-sum-none text = record { inside = omega arith; most = omega arith; fits = omega arith; number = refl }
-
 module _ {text : List ℕ} {n at : ℕ} (s : Sum text n at) where
   pub sum-great : at < length text → most_number < n * 10 + (byte_at text at - 48) → wrong_at too_great at ≡ bounded_number text
-  unfolding fitting bounded_number
+  unfolding fitting
   sum-great l h =
       let e : fitting 0 text ≡ at = s.fits ∙ rw (behind text at l, lt-leb (n * 10 + (byte_at text at - 48)) most_number h) (add-zero at) in
       rw (e, lt-ltb at (length text) l)
@@ -83,14 +59,14 @@ module _ {text : List ℕ} {n at : ℕ} (s : Sum text n at) where
   }
 
   pub sum-all : length text ≤ at → answered (n ∷ []) ≡ bounded_number text
-  unfolding fitting reads bounded_number
+  unfolding fitting reads
   sum-all h =
       let none = drop_of_length-le text h in
       let e : fitting 0 text ≡ at = s.fits ∙ rw none (add-zero at) in
       let r : reads 0 text ≡ n = s.number ∙ rw none in
       rw (e, le-ltb at (length text) h, r)
 
--- ---- 1, 2, 3, 4
+-- ---- a number
 
 module _ (text : List ℕ) where
   pub one_byte : length text ≤ 1 → has_leading_zero text ≡ false
@@ -99,20 +75,5 @@ module _ (text : List ℕ) where
   pub other_byte : (byte_at text 0 ≡ 48 → ⊥) → has_leading_zero text ≡ false
   other_byte h = rw (ne_eqb (byte_at text 0) 48 h) (and-false (ltb 1 (length text)))
 
-  pub told-empty : length text < 1 → wrong_at empty 0 ≡ file_number_of text
-  unfolding file_number_of
-  told-empty h = rw (lt-ltb (length text) 1 h)
-
-  module _ (some : 1 ≤ length text) where
-    pub told-zero : 1 < length text → byte_at text 0 ≡ 48 → wrong_at leading_zero 0 ≡ file_number_of text
-    unfolding file_number_of
-    told-zero h e = rw (le-ltb (length text) 1 some, lt-ltb 1 (length text) h, eq-eqb (byte_at text 0) 48 e)
-
-    module _ (other : has_leading_zero text ≡ false) where
-      pub told-other : digits_of text < length text → wrong_at no_digit (digits_of text) ≡ file_number_of text
-      unfolding file_number_of
-      told-other h = rw (le-ltb (length text) 1 some, other, lt-ltb (digits_of text) (length text) h)
-
-      pub told-number : length text ≤ digits_of text → bounded_number text ≡ file_number_of text
-      unfolding file_number_of
-      told-number h = rw (le-ltb (length text) 1 some, other, le-ltb (digits_of text) (length text) h)
+  pub told-number : 1 ≤ length text → has_leading_zero text ≡ false → length text ≤ digits_of text → bounded_number text ≡ file_number_of text
+  told-number some other h = rw (le-ltb (length text) 1 some, other, le-ltb (digits_of text) (length text) h)

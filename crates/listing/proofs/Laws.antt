@@ -10,11 +10,10 @@ use Rattle.refusal.specs.Check.{silent}
 use Rattle.refusal.specs.Outcome.{answered, after}
 use Rattle.refusal.specs.Output.{filled}
 use Rattle.index_layout.specs.declared.Layout.{Layout}
-use Rattle.index_open.specs.declared.Checked.{Checked}
-use Rattle.index_open.specs.declared.Checked.TheVariants.{Passed}
 use Rattle.index_layout.specs.Layout.{layout_of, layout_from}
-use Rattle.index_open.specs.Open.{layout_values, outcome}
-use Rattle.index_open.proofs.Laws.{passed-index}
+use Rattle.index_open.specs.Open.{layout_values}
+use Rattle.refusal.proofs.Laws.{answered-after}
+use Rattle.index_open.proofs.Laws.{values_one}
 use Rattle.text.proofs.PutLaws.{Put, put_whole}
 use Rattle.listing.specs.Listing.{text_by, text_of, listing_check, fitted}
 use Rattle.listing.proofs.Most.{listed, text-most}
@@ -26,14 +25,15 @@ pub record Listable (s : List ℕ) (l : Layout) : Type 0 where
   pub width : l.offset_width ≤ 8
   pub whole : text_by s l ≡ text_of s
 
-pub listable : (s : List ℕ) (l : Layout) (v : Checked) → outcome v ≡ after (listing_check s) (answered (layout_values (layout_of s))) → v ≡ Passed l → Listable s l
+pub listable : (s : List ℕ) (l : Layout) → answered (layout_values l) ≡ after (listing_check s) (answered (layout_values (layout_of s))) → Listable s l
 unfolding layout_from
-listable s l v e g =
-    let i = passed-index (listing_check s) l (layout_of s) v e g in
+listable s l e =
+    let i = answered-after (listing_check s) _ _ e in
+    let is = values_one l (layout_of s) i.1 in
     record {
       quiet = i.0;
-      width = omega (arith, ap (λ m. m.offset_width) i.1, (listed s i.0).1.offset-high);
-      whole = ap (text_by s) i.1;
+      width = omega (arith, ap (λ m. m.offset_width) is, (listed s i.0).1.offset-high);
+      whole = ap (text_by s) is;
     }
 
 module _ (s : List ℕ) (l : Layout) (i : Listable s l) (out after : List ℕ) (to : ℕ) (p : Put out 0 (text_by s l) after to) where

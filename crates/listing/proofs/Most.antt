@@ -68,8 +68,7 @@ module _ (s : List ℕ) (o : Opened s) where
 
 -- an input that is listed
 both-silent : (s : List ℕ) → listing_check s ≡ silent → (input_check s ≡ silent) × (full_check s ≡ silent)
-unfolding listing_check
-both-silent s e = (search (first-left, first-right), search (first-left, first-right))
+both-silent s e = (first-left _ _ e, first-right _ _ e)
 
 pub listed : (s : List ℕ) → listing_check s ≡ silent → (length s ≤ 65536) × Opened s
 unfolding full_check

@@ -34,7 +34,7 @@ abbrev pub input_check : List ℕ → Check
 input_check s = refused_if (ltb 65536 (length s)) listing_input 0
 
 -- 70 first, then the full check (rule T9).
-unfoldable pub listing_check : List ℕ → Check
+abbrev pub listing_check : List ℕ → Check
 listing_check s = first (input_check s) (full_check s)
 
 abbrev pub listing_outcome : List ℕ → Outcome

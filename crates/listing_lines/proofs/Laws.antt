@@ -13,6 +13,11 @@ use Rattle.text.specs.Text.{ascii, numbered}
 use Rattle.text.proofs.TextLaws.{decimal-most, hex-length}
 use Rattle.listing_lines.specs.Lines.{header, location_text, entry_line}
 
+pub header-is : (l : Layout) (k w n p : ℕ) → k ≡ l.key_length → w ≡ l.offset_width → n ≡ l.entries → p ≡ l.pages
+    → numbered "index key=" k ++ numbered " offset=" w ++ numbered " entries=" n ++ numbered " pages=" p ++ ascii "\n" ≡ header l
+unfolding header
+header-is l k w n p e f g h = rw (e, f, g, h)
+
 pub location-six : (width location archive offset : ℕ) → width ≡ 6 → archive ≡ archive_of location → offset ≡ offset_of location
     → numbered " " archive ++ numbered " " offset ≡ location_text width location
 unfolding location_text

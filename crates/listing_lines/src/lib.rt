@@ -14,10 +14,10 @@ pub fn put_header(l: Layout, output: &mut [u8], at: usize) -> usize
     ensures value { result ≡ place_after at (length (spec.header l)) }
     ensures output_after { output.new ≡ overlay output.old at (spec.header l) }
 {
-    let mut to = put_number(b"index key=", l.key_length as u64, output, at);
-    to = put_number(b" offset=", l.offset_width as u64, output, to);
-    to = put_number(b" entries=", l.entries as u64, output, to);
-    to = put_number(b" pages=", l.pages as u64, output, to);
+    let mut to = put_number(b"index key=", u64::from(l.key_length), output, at);
+    to = put_number(b" offset=", u64::from(l.offset_width), output, to);
+    to = put_number(b" entries=", u64::from(l.entries), output, to);
+    to = put_number(b" pages=", u64::from(l.pages), output, to);
     put(b"\n", output, to)
 }
 
@@ -27,8 +27,8 @@ fn put_location(width: u8, location: u64, output: &mut [u8], at: usize) -> usize
     ensures output_after { output.new ≡ overlay output.old at (spec.location_text width location) }
 {
     if width == 6 {
-        let to = put_number(b" ", archive(location) as u64, output, at);
-        return put_number(b" ", offset(location) as u64, output, to);
+        let to = put_number(b" ", u64::from(archive(location)), output, at);
+        return put_number(b" ", u64::from(offset(location)), output, to);
     }
     put_number(b" - ", location, output, at)
 }

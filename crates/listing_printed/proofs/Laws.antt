@@ -1,16 +1,13 @@
 -- Laws of what is printed: the place of a refusal, how long a line is, and what the listing's answer says.
 use mathlib.Core.Path.{◌≡◌, refl, sym, ap, ◌∙◌}
 use mathlib.Core.Bool.{Bool, true, false, cond}
-use mathlib.Core.List.{List, [], ◌∷◌}
+use mathlib.Core.List.{List, [], ◌∷◌, ◌++◌}
 use Prim.Native.Nat.{ℕ, ◌≤◌, zero-le}
 use native.Mathlib.Omega.{arith}
 use lib.ListN.{length, length-append}
 use borrow.Author.Tests.{le-leb}
-use Rattle.refusal.specs.declared.Refusal.{Refusal}
-use Rattle.refusal.specs.declared.Written.{Written}
-use Rattle.refusal.specs.declared.Written.TheVariants.{Bytes, Refused}
 use Rattle.refusal.specs.Check.{silent, refused}
-use Rattle.refusal.specs.Outcome.{written_outcome}
+use Rattle.refusal.specs.Outcome.{answered, refusal}
 use Rattle.refusal.specs.Output.{filled}
 use Rattle.refusal.proofs.Laws.{answered-after, refusal-after}
 use Rattle.text.specs.Text.{ascii, numbered}
@@ -31,6 +28,10 @@ module _ (number place : ℕ) (t : Bool) (e : t ≡ has_place number) where
   unfolding place_text
   place-left h = rw (← e, h)
 
+pub line-is : (n number place : ℕ) → n ≡ number → numbered "refused " n ++ place_text number place ++ ascii "\n" ≡ refusal_line number place
+unfolding refusal_line
+line-is n number place e = rw e
+
 -- ---- how long a line is
 
 place-most : (number place : ℕ) (b : Bool) → b ≡ has_place number → length (place_text number place) ≤ 24
@@ -44,42 +45,40 @@ line-most number place = simp length-append (omega (arith, decimal-most number, 
 
 -- ---- what the listing's answer says
 
-module _ (s : List ℕ) (v : Written) (e : written_outcome v ≡ listing_outcome s) where
-  told-quiet : (n : ℕ) → v ≡ Bytes n → (listing_check s ≡ silent) × (n ∷ [] ≡ length (text_of s) ∷ [])
-  unfolding written_outcome
-  told-quiet n g = answered-after (listing_check s) (n ∷ []) (length (text_of s) ∷ []) (sym (ap written_outcome g) ∙ e)
+module _ (s : List ℕ) (n : ℕ) (e : answered (n ∷ []) ≡ listing_outcome s) where
+  quiet-told : (listing_check s ≡ silent) × (n ∷ [] ≡ length (text_of s) ∷ [])
+  quiet-told = answered-after (listing_check s) (n ∷ []) (length (text_of s) ∷ []) e
 
-  pub told-length : (n : ℕ) → v ≡ Bytes n → n ≡ length (printed s)
+  pub told-length : n ≡ length (printed s)
   unfolding printed printed_after
-  told-length n g =
-      let a = told-quiet n g in
+  told-length =
+      let a = quiet-told in
       let same : n ≡ length (text_of s) = cc a.1 in
       same ∙ sym (ap (λ k. length (printed_after k s)) a.0)
 
-  pub told-bytes : (n : ℕ) (out last : List ℕ) → v ≡ Bytes n → length out ≡ 655360 → last ≡ fitted (listing_check s) (text_of s) out
-      → last ≡ filled silent (printed s) out
+  pub told-bytes : (out last : List ℕ) → length out ≡ 655360 → last ≡ fitted (listing_check s) (text_of s) out → last ≡ filled silent (printed s) out
   unfolding printed printed_after fitted
-  told-bytes n out last g room f =
-      let a = told-quiet n g in
+  told-bytes out last room f =
+      let a = quiet-told in
       f ∙ ap (λ k. fitted k (text_of s) out) a.0
       ∙ ap (λ b. cond b (filled silent (text_of s) out) out) (le-leb (length (text_of s)) (length out) (omega (arith, text-most s a.0)))
       ∙ sym (ap (λ k. filled silent (printed_after k s) out) a.0)
 
-  told-refused : {r : Refusal} → v ≡ Refused r → listing_check s ≡ refused r.number r.place
-  unfolding written_outcome
-  told-refused {r} g = refusal-after (listing_check s) r.number r.place (length (text_of s) ∷ []) (sym (ap written_outcome g) ∙ e)
+module _ (s : List ℕ) (number place : ℕ) (e : refusal number place ≡ listing_outcome s) where
+  refused-told : listing_check s ≡ refused number place
+  refused-told = refusal-after (listing_check s) number place (length (text_of s) ∷ []) e
 
-  line-printed : {r : Refusal} → v ≡ Refused r → refusal_line r.number r.place ≡ printed s
+  line-printed : refusal_line number place ≡ printed s
   unfolding printed printed_after
-  line-printed g = sym (ap (λ k. printed_after k s) (told-refused g))
+  line-printed = sym (ap (λ k. printed_after k s) refused-told)
 
   -- the output is untouched before the line is put
-  pub refused-put : {r : Refusal} (out then last : List ℕ) (to : ℕ) → v ≡ Refused r → length out ≡ 655360 → then ≡ fitted (listing_check s) (text_of s) out
-      → Put then 0 (refusal_line r.number r.place) last to → (to ≡ length (printed s)) × (last ≡ filled silent (printed s) out)
+  pub refused-put : (out then last : List ℕ) (to : ℕ) → length out ≡ 655360 → then ≡ fitted (listing_check s) (text_of s) out
+      → Put then 0 (refusal_line number place) last to → (to ≡ length (printed s)) × (last ≡ filled silent (printed s) out)
   unfolding filled fitted
-  refused-put {r} out then last to g room f p =
-      let same : then ≡ out = f ∙ ap (λ k. fitted k (text_of s) out) (told-refused g) in
-      let most = line-most r.number r.place in (
-        omega (arith, p.end, ap length (line-printed g), most),
-        put_whole then (refusal_line r.number r.place) last to p (omega (arith, ap length same)) ∙ rw (same, line-printed g),
+  refused-put out then last to room f p =
+      let same : then ≡ out = f ∙ ap (λ k. fitted k (text_of s) out) refused-told in
+      let most = line-most number place in (
+        omega (arith, p.end, ap length line-printed, most),
+        put_whole then (refusal_line number place) last to p (omega (arith, ap length same)) ∙ rw (same, line-printed),
       )

@@ -7,7 +7,7 @@ use native.Mathlib.Nat.{le_refl, not-suc-le-zero, le_of_suc-le-suc, suc-add, pow
 use native.Mathlib.Numerals.{add-one}
 use native.Mathlib.Omega.{arith}
 use lib.Dec.{ltb}
-use lib.ListN.{length, take, drop, set, get_or, length-append, length-take, length-set}
+use lib.ListN.{length, take, drop, set, get_or, length-append, length-set}
 use lib.Seq.{drop-cons, drop-set-lt, get_or-set_same}
 use borrow.Author.Tests.{lt-ltb, le-ltb}
 use Rattle.parts.proofs.Laws.{part_to_end}
@@ -48,7 +48,8 @@ digit-turn n first rest d h k l e =
     ∙ rw (i, set_front d first (48 + rest % 10) l)
 
 -- the first digit
-pub digit-last : (n first rest : ℕ) (d : List ℕ) → rest < 10 → first < 20 → length d ≡ 20 → decimal n ≡ decimal_digits (first + 1) rest ++ drop (first + 1) d
+pub digit-last : (n first rest : ℕ) (d : List ℕ) → rest < 10 → first < 20 → length d ≡ 20
+    → decimal n ≡ decimal_digits (first + 1) rest ++ drop (first + 1) d
     → take (20 - first) (drop first (set d first (48 + rest))) ≡ decimal n
 unfolding decimal_digits
 digit-last n first rest d h k l e =

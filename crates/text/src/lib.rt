@@ -9,26 +9,13 @@ ghost use Rattle.text.specs.Place.{place_after};
 
 use parts::copy;
 
-const GREATEST: usize = 18_446_744_073_709_551_615;
-
-// The place `length` bytes after another.
-fn place_after(at: usize, length: usize) -> usize
-    ensures { result ≡ place_after at length }
-{
-    if length <= GREATEST - at {
-        at + length
-    } else {
-        GREATEST
-    }
-}
-
 // Bytes as they are.
 pub fn put(text: &[u8], output: &mut [u8], at: usize) -> usize
     ensures value { result ≡ place_after at (length text.now) }
     ensures output_after { output.new ≡ overlay output.old at text.now }
 {
     copy(text, output, at);
-    place_after(at, text.len())
+    at.saturating_add(text.len())
 }
 
 // A number in decimal.
@@ -70,12 +57,9 @@ pub fn put_hex(bytes: &[u8], output: &mut [u8], at: usize) -> usize
     ensures output_after { output.new ≡ overlay output.old at (spec.hex bytes.now) }
 {
     let mut to = at;
-    let mut i = 0;
-    while i < bytes.len() {
-        let b = bytes[i];
-        let pair = [hex_digit(b / 16), hex_digit(b % 16)];
+    for b in bytes {
+        let pair = [hex_digit(*b / 16), hex_digit(*b % 16)];
         to = put(&pair, output, to);
-        i += 1;
     }
     to
 }

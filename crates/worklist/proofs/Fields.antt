@@ -8,23 +8,22 @@ use native.Mathlib.Omega.{arith}
 use borrow.Author.Tests.{ltb-true}
 use lib.ListN.{length, take, drop}
 use Rattle.refusal.specs.Check.{Check, silent, refused}
-use Rattle.refusal.specs.Outcome.{Outcome, answered, absent, after}
+use Rattle.refusal.specs.Outcome.{Outcome, answered, absent, refusal, after}
 use Rattle.parts.proofs.Laws.{by-test}
+use Rattle.std.specs.Prelude.{Result, Ok, Err}
 use Rattle.worklist.specs.declared.FieldEnd.{FieldEnd}
-use Rattle.worklist.specs.declared.FieldEnd.TheVariants as field
+use Rattle.worklist.specs.declared.Malformed.{Malformed}
 use Rattle.worklist.specs.declared.Span.{Span}
-use Rattle.refusal.specs.declared.Refusal.{Refusal}
-use Rattle.worklist.specs.declared.FieldAnswer.{FieldAnswer}
-use Rattle.worklist.specs.declared.FieldAnswer.TheVariants as answer
 use Rattle.worklist.proofs.Rows.{field-forward, field-inside, separator-inside}
-use Rattle.worklist.specs.Rows.{field_at, Row, whole, malformed, in_front, separator_at, separator_check, span_of, step_of_row, row_by, row_at, of_row}
-use Rattle.worklist.specs.Rows.{span_values, column_of, field_in, field_outcome, place_of, length_of, field_part, field_told}
+use Rattle.worklist.specs.Rows.{field_at, field_to, Row, whole, malformed, in_front, separator_at, separator_check}
+use Rattle.worklist.specs.Rows.{span_of, step_of_row, row_by, row_at, of_row}
+use Rattle.worklist.specs.Rows.{span_values, column_of, field_in, field_outcome, place_of, length_of, field_part}
 
 -- The fields from a place on, up to where the row ends.
 pub data Fields (sep : ℕ) (t : List ℕ) : ℕ → List Span → ℕ → Type 0 where
-  last : {at end : ℕ} {quoted : Bool} → at ≤ length t → field_at sep t at ≡ field.Whole end quoted → separator_at sep t end ≡ false
+  last : {at end : ℕ} {quoted : Bool} → at ≤ length t → field_at sep t at ≡ field_to end quoted → separator_at sep t end ≡ false
       → Fields sep t at (span_of at end quoted ∷ []) end
-  more : {at stop end : ℕ} {quoted : Bool} {fields : List Span} → at ≤ length t → field_at sep t at ≡ field.Whole stop quoted → separator_at sep t stop ≡ true
+  more : {at stop end : ℕ} {quoted : Bool} {fields : List Span} → at ≤ length t → field_at sep t at ≡ field_to stop quoted → separator_at sep t stop ≡ true
       → Fields sep t (stop + 1) fields end → Fields sep t at (span_of at stop quoted ∷ fields) end
 
 never-whole : {P : Type 0} (place : ℕ) (fields : List Span) (end : ℕ) → malformed place ≡ whole fields end → P
@@ -37,7 +36,7 @@ same_row {sep} {t} {at} {a} {b} {m} {n} e f =
     subst (λ x. Fields sep t at b x) end (subst (λ x. Fields sep t at x m) fields f)
 
 module _ (sep : ℕ) (t : List ℕ) where
-  fields-more : {at stop : ℕ} {quoted : Bool} → at ≤ length t → field_at sep t at ≡ field.Whole stop quoted → separator_at sep t stop ≡ true → (r : Row)
+  fields-more : {at stop : ℕ} {quoted : Bool} → at ≤ length t → field_at sep t at ≡ field_to stop quoted → separator_at sep t stop ≡ true → (r : Row)
       → ((fields : List Span) (end : ℕ) → r ≡ whole fields end → Fields sep t (stop + 1) fields end)
       → (fields : List Span) (end : ℕ) → in_front (span_of at stop quoted) r ≡ whole fields end → Fields sep t at fields end
   unfolding in_front
@@ -46,12 +45,13 @@ module _ (sep : ℕ) (t : List ℕ) where
 
   fields-step : (at : ℕ) → at ≤ length t → (next : ℕ → Row)
       → ((from : ℕ) → from ≤ length t → (fields : List Span) (end : ℕ) → next from ≡ whole fields end → Fields sep t from fields end)
-      → (f : FieldEnd) → field_at sep t at ≡ f → (fields : List Span) (end : ℕ) → step_of_row sep t at f next ≡ whole fields end → Fields sep t at fields end
+      → (f : Result FieldEnd Malformed) → field_at sep t at ≡ f
+      → (fields : List Span) (end : ℕ) → step_of_row sep t at f next ≡ whole fields end → Fields sep t at fields end
   unfolding step_of_row
-  fields-step at l next ih (field.Faulty place) is fields end e = never-whole place fields end e
-  fields-step at l next ih (field.Whole stop quoted) is fields end e =
-      by-test (separator_at sep t stop)
-      (λ s. fields-more l is s (next (stop + 1)) (ih (stop + 1) (omega (arith, separator-inside sep t stop s))) fields end (rw s at e))
+  fields-step at l next ih (Err m) is fields end e = never-whole m.place fields end e
+  fields-step at l next ih (Ok f) is fields end e =
+      by-test (separator_at sep t f.end)
+      (λ s. fields-more l is s (next (f.end + 1)) (ih (f.end + 1) (omega (arith, separator-inside sep t f.end s))) fields end (rw s at e))
       (λ s. same_row (rw s at e) (last l is s))
 
   fields-by : (turns at : ℕ) → at ≤ length t → (fields : List Span) (end : ℕ) → row_by turns sep t at ≡ whole fields end → Fields sep t at fields end
@@ -74,7 +74,7 @@ unfolding place_of length_of
 nowhere t values = record { within = omega arith }
 
 module _ (sep : ℕ) (t : List ℕ) where
-  span-inside : (at end : ℕ) (quoted : Bool) → at ≤ length t → field_at sep t at ≡ field.Whole end quoted
+  span-inside : (at end : ℕ) (quoted : Bool) → at ≤ length t → field_at sep t at ≡ field_to end quoted
       → Inside t (answered (span_values (span_of at end quoted)))
   unfolding place_of length_of span_values
   span-inside at end quoted l e =
@@ -117,23 +117,22 @@ pub part-found : {t : List ℕ} {told : Outcome} {f : Span} → FoundAt t told f
 part-found {t} {told} {f} g =
     ap₂ (λ n p. take n (drop p t)) (add-sub_cancel_left f.at f.length ∙ sym g.size) (sym g.place)
 
-pub part_none : (t : List ℕ) (told : Outcome) → (place_of told ≡ 0) × (length_of told ≡ 0) → [] ≡ field_part t told
+part_none : (t : List ℕ) (told : Outcome) → (place_of told ≡ 0) × (length_of told ≡ 0) → [] ≡ field_part t told
 part_none t told e = sym (ap₂ (λ n p. take n (drop p t)) e.1 e.0)
 
-module _ (t : List ℕ) (at sep column : ℕ) (r : FieldAnswer) (told : field_told r ≡ field_outcome t at sep column) where
-  pub found_at : {f : Span} → r ≡ answer.Found f → FoundAt t (field_outcome t at sep column) f
-  unfolding field_told span_values place_of length_of
-  found_at {f} e =
-      let is : answered (span_values f) ≡ field_outcome t at sep column = ap field_told (sym e) ∙ told in
+module _ (t : List ℕ) (at sep column : ℕ) where
+  pub found_at : {f : Span} → answered (span_values f) ≡ field_outcome t at sep column → FoundAt t (field_outcome t at sep column) f
+  unfolding span_values place_of length_of
+  found_at {f} is =
       let p : place_of (field_outcome t at sep column) ≡ f.at = ap place_of (sym is) in
       let n : length_of (field_outcome t at sep column) ≡ f.length = ap length_of (sym is) in
       record { place = p; size = n; inside = omega (arith, (outcome-inside t at sep column).within) }
 
-  -- and no part where nothing is told
-  pub absent-at : r ≡ answer.Absent → (place_of (field_outcome t at sep column) ≡ 0) × (length_of (field_outcome t at sep column) ≡ 0)
-  unfolding field_told place_of length_of
-  absent-at e = let is = ap field_told (sym e) ∙ told in (ap place_of (sym is), ap length_of (sym is))
+-- and no part where nothing is told
+pub part-absent : (t values : List ℕ) (told : Outcome) → absent values ≡ told → ([] ≡ field_part t told) × (place_of told ≡ 0)
+unfolding place_of length_of
+part-absent t values told e = (part_none t told (ap place_of (sym e), ap length_of (sym e)), ap place_of (sym e))
 
-  pub refused-at : {x : Refusal} → r ≡ answer.Refused x → (place_of (field_outcome t at sep column) ≡ 0) × (length_of (field_outcome t at sep column) ≡ 0)
-  unfolding field_told place_of length_of
-  refused-at e = let is = ap field_told (sym e) ∙ told in (ap place_of (sym is), ap length_of (sym is))
+pub part-refused : (t : List ℕ) (n p : ℕ) (told : Outcome) → refusal n p ≡ told → ([] ≡ field_part t told) × (place_of told ≡ 0)
+unfolding place_of length_of
+part-refused t n p told e = (part_none t told (ap place_of (sym e), ap length_of (sym e)), ap place_of (sym e))

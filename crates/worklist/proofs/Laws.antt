@@ -1,5 +1,5 @@
 -- Laws of separated text, byte by byte and field by field.
-use mathlib.Core.Path.{◌≡◌, sym, ap, ◌∙◌}
+use mathlib.Core.Path.{◌≡◌, sym, ap}
 use mathlib.Core.Bool.{Bool, true, false, not, false≢true}
 use mathlib.Core.List.{List, ◌∷◌}
 use Prim.Native.Nat.{ℕ, ◌+◌, ◌≤◌, ◌<◌}
@@ -10,10 +10,8 @@ use borrow.Author.Tests.{eq-eqb, ne_eqb}
 use lib.ListN.{length, drop, drop_of_length-le, get_or-eq_default}
 use lib.Seq.{drop-cons}
 use Rattle.parts.specs.Part.{byte_at}
-use Rattle.worklist.specs.declared.Closing.{Closing}
-use Rattle.worklist.specs.declared.Closing.TheVariants.{Behind, Never}
-use Rattle.worklist.specs.declared.FieldEnd.TheVariants as field
-use Rattle.worklist.specs.Rows.{quote, stops, stop_from, stop_at, closing_from, closing_at, ends_field, quoted_field, field_at}
+use Rattle.std.specs.Prelude.{Some, None}
+use Rattle.worklist.specs.Rows.{quote, stops, stop_from, stop_at, closing_from}
 
 -- ---- one byte more
 
@@ -59,38 +57,14 @@ module _ (t : List ℕ) (at : ℕ) where
   closing-other true p l e = absurd (false≢true (sym p))
 
   pub closing-here : (pending : Bool) → pending ≡ true → at < length t → (byte_at t at ≡ quote → ⊥)
-      → closing_from pending at (drop at t) ≡ Behind at
+      → closing_from pending at (drop at t) ≡ Some at
   unfolding closing_from
   closing-here pending p l e = rw (p, behind t at l, ne_eqb _ quote e)
 
-  pub closing_end : (pending : Bool) → pending ≡ true → length t ≤ at → closing_from pending at (drop at t) ≡ Behind at
+  pub closing_end : (pending : Bool) → pending ≡ true → length t ≤ at → closing_from pending at (drop at t) ≡ Some at
   unfolding closing_from
   closing_end pending p h = rw (p, drop_of_length-le t h)
 
-  pub closing-never : (pending : Bool) → pending ≡ false → length t ≤ at → closing_from pending at (drop at t) ≡ Never
+  pub closing-never : (pending : Bool) → pending ≡ false → length t ≤ at → closing_from pending at (drop at t) ≡ None
   unfolding closing_from
   closing-never pending p h = rw (p, drop_of_length-le t h)
-
--- ---- a field, as it is read
-
-module _ (sep : ℕ) (t : List ℕ) (at b : ℕ) (read : b ≡ byte_at t at) where
-  pub plain-field : (b ≡ quote → ⊥) → (end : ℕ) → end ≡ stop_at sep t at → field.Whole end false ≡ field_at sep t at
-  unfolding field_at
-  plain-field h end q = rw (q, ne_eqb (byte_at t at) quote (λ e. h (read ∙ e)))
-
-  module _ (opened : b ≡ quote) (k : Closing) (closing : k ≡ closing_at t (at + 1)) where
-    in_quotes : {k' : Closing} → k ≡ k' → field_at sep t at ≡ quoted_field sep t at k'
-    unfolding field_at
-    in_quotes e = rw (eq-eqb (byte_at t at) quote (sym read ∙ opened), ← closing, e)
-
-    pub never-closed : k ≡ Never → field.Faulty at ≡ field_at sep t at
-    unfolding quoted_field
-    never-closed e = sym (in_quotes e)
-
-    pub closed-well : {end : ℕ} → k ≡ Behind end → (r : Bool) → r ≡ ends_field sep t end → r ≡ true → field.Whole end true ≡ field_at sep t at
-    unfolding quoted_field
-    closed-well {end} e r q h = sym (in_quotes e ∙ rw (← q, h))
-
-    pub closed-ill : {end : ℕ} → k ≡ Behind end → (r : Bool) → r ≡ ends_field sep t end → r ≡ false → field.Faulty end ≡ field_at sep t at
-    unfolding quoted_field
-    closed-ill {end} e r q h = sym (in_quotes e ∙ rw (← q, h))

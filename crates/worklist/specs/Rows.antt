@@ -1,20 +1,16 @@
 -- Separated text t with a separator: rules D1 to D7. A place is a byte offset in t.
 use Rattle.std.specs.Prelude.{◌≡◌, Bool, true, false, cond, ◌||◌, ◌&&◌, List, [], ◌∷◌, ℕ, zero, suc, ◌+◌, ◌-◌, ltb, leb, eqb, length, drop}
+use Rattle.std.specs.Prelude.{Option, Some, None, Result, Ok, Err}
 use Rattle.refusal.specs.Check.{Check, refused_if}
-use Rattle.refusal.specs.Number.{settings}
+use Rattle.refusal.specs.Number.{settings, number_of}
 use Rattle.refusal.specs.Outcome.{Outcome, answered, absent, refusal, after}
 use Rattle.parts.specs.Part.{byte_at, part_at}
-use Rattle.worklist.specs.declared.Closing.{Closing}
-use Rattle.worklist.specs.declared.Closing.TheVariants.{Behind, Never}
+use Rattle.refusal.specs.declared.Refusal.{Refusal}
+use Rattle.worklist.specs.declared.Malformed.{Malformed}
 use Rattle.worklist.specs.declared.FieldEnd.{FieldEnd}
-use Rattle.worklist.specs.declared.FieldEnd.TheVariants as field
 use Rattle.worklist.specs.declared.Span.{Span}
 use Rattle.worklist.specs.declared.Walked.{Walked}
-use Rattle.worklist.specs.declared.Walked.TheVariants as walked
-use Rattle.worklist.specs.declared.RowAnswer.{RowAnswer}
-use Rattle.worklist.specs.declared.RowAnswer.TheVariants as row
-use Rattle.worklist.specs.declared.FieldAnswer.{FieldAnswer}
-use Rattle.worklist.specs.declared.FieldAnswer.TheVariants as answer
+use Rattle.worklist.specs.declared.RowFound.{RowFound}
 
 abbrev pub quote : ℕ
 quote = 34
@@ -59,29 +55,36 @@ stop_at sep t at = stop_from sep at (drop at t)
 
 -- The place behind the closing quote: the first quote that is not doubled. Pending: the byte before is a quote, which closes the
 -- field unless another follows (rule D3).
-unfoldable pub closing_from : (pending : Bool) (at : ℕ) → List ℕ → Closing
-closing_from false at [] = Never
-closing_from true at [] = Behind at
+unfoldable pub closing_from : (pending : Bool) (at : ℕ) → List ℕ → Option ℕ
+closing_from false at [] = None
+closing_from true at [] = Some at
 closing_from false at (b ∷ s) = closing_from (eqb b quote) (at + 1) s
-closing_from true at (b ∷ s) = cond (eqb b quote) (closing_from false (at + 1) s) (Behind at)
+closing_from true at (b ∷ s) = cond (eqb b quote) (closing_from false (at + 1) s) (Some at)
 
-abbrev pub closing_at : List ℕ → (at : ℕ) → Closing
+abbrev pub closing_at : List ℕ → (at : ℕ) → Option ℕ
 closing_at t at = closing_from false at (drop at t)
 
 -- Whether a closing quote may stand before a place: the text ends there, or a separator, CR or LF stands there (rule D4).
 unfoldable pub ends_field : (sep : ℕ) → List ℕ → (at : ℕ) → Bool
 ends_field sep t at = leb (length t) at || stops sep (byte_at t at)
 
+-- A field that ends at a place, and a row that is malformed there.
+abbrev pub field_to : (end : ℕ) → Bool → Result FieldEnd Malformed
+field_to end quoted = Ok (record { end = end; quoted = quoted })
+
+abbrev pub faulty : {T : Type 0} → (place : ℕ) → Result T Malformed
+faulty place = Err (record { place = place })
+
 -- A quoted field, by where it is closed. The place of a fault is that of the byte behind the closing quote, or of the opening
 -- quote of a field that is never closed (rule D4).
-unfoldable pub quoted_field : (sep : ℕ) → List ℕ → (at : ℕ) → Closing → FieldEnd
-quoted_field sep t at Never = field.Faulty at
-quoted_field sep t at (Behind end) = cond (ends_field sep t end) (field.Whole end true) (field.Faulty end)
+unfoldable pub quoted_field : (sep : ℕ) → List ℕ → (at : ℕ) → Option ℕ → Result FieldEnd Malformed
+quoted_field sep t at None = faulty at
+quoted_field sep t at (Some end) = cond (ends_field sep t end) (field_to end true) (faulty end)
 
 -- The field that begins at a place: quoted where its first byte is a quote, else plain (rule D3).
-unfoldable pub field_at : (sep : ℕ) → List ℕ → (at : ℕ) → FieldEnd
+unfoldable pub field_at : (sep : ℕ) → List ℕ → (at : ℕ) → Result FieldEnd Malformed
 field_at sep t at =
-    cond (eqb (byte_at t at) quote) (quoted_field sep t at (closing_at t (at + 1))) (field.Whole (stop_at sep t at) false)
+    cond (eqb (byte_at t at) quote) (quoted_field sep t at (closing_at t (at + 1))) (field_to (stop_at sep t at) false)
 
 -- ---- a row
 
@@ -102,10 +105,10 @@ span_of at end quoted = record { at = at; length = end - at; quoted = quoted }
 
 -- A field and what follows it: behind a separator the next field, else the row's end. So an empty row has one field, of no
 -- bytes (rule D5).
-unfoldable pub step_of_row : (sep : ℕ) → List ℕ → (at : ℕ) → FieldEnd → (next : ℕ → Row) → Row
-step_of_row sep t at (field.Faulty place) next = malformed place
-step_of_row sep t at (field.Whole end quoted) next =
-    cond (separator_at sep t end) (in_front (span_of at end quoted) (next (end + 1))) (whole (span_of at end quoted ∷ []) end)
+unfoldable pub step_of_row : (sep : ℕ) → List ℕ → (at : ℕ) → Result FieldEnd Malformed → (next : ℕ → Row) → Row
+step_of_row sep t at (Err m) next = malformed m.place
+step_of_row sep t at (Ok f) next =
+    cond (separator_at sep t f.end) (in_front (span_of at f.end f.quoted) (next (f.end + 1))) (whole (span_of at f.end f.quoted ∷ []) f.end)
 
 unfoldable pub row_by : (turns sep : ℕ) → List ℕ → (at : ℕ) → Row
 row_by zero sep t at = malformed at
@@ -180,26 +183,37 @@ field_part t told = part_at t (place_of told) (length_of told)
 
 -- ---- what the declared answers tell
 
-unfoldable pub kept_of : (old new : Span) (number column : ℕ) → Span
-kept_of old new number column = cond (eqb number column) new old
-
 -- The field with a number; zeros where there is none.
 unfoldable pub span_in : List Span → (column : ℕ) → Span
 span_in [] column = record { at = 0; length = 0; quoted = false }
 span_in (f ∷ fields) zero = f
 span_in (f ∷ fields) (suc column) = span_in fields column
 
-unfoldable pub walked_of : Row → (column : ℕ) → Walked
-walked_of (whole fields end) column = walked.Whole end (length fields) (span_in fields column)
-walked_of (malformed place) column = walked.Malformed place
+-- The field with a number, where there is one.
+unfoldable pub found_in : List Span → (column : ℕ) → Option Span
+found_in [] column = None
+found_in (f ∷ fields) zero = Some f
+found_in (f ∷ fields) (suc column) = found_in fields column
 
-unfoldable pub outcome_of_row : RowAnswer → Outcome
-outcome_of_row (row.Whole end next fields) = answered (end ∷ next ∷ fields ∷ 0 ∷ 0 ∷ [])
-outcome_of_row (row.Malformed end next place) = answered (end ∷ next ∷ 0 ∷ 1 ∷ place ∷ [])
-outcome_of_row row.Absent = absent []
-outcome_of_row (row.Refused r) = refusal r.number r.place
+unfoldable pub walked_of : Row → (column : ℕ) → Result Walked Malformed
+walked_of (whole fields end) column = Ok (record { end = end; fields = length fields; found = found_in fields column })
+walked_of (malformed place) column = faulty place
 
-unfoldable pub field_told : FieldAnswer → Outcome
-field_told (answer.Found f) = answered (span_values f)
-field_told answer.Absent = absent []
-field_told (answer.Refused r) = refusal r.number r.place
+-- The number of fields, 0, 0; malformed: 0, 1, the place (rule D6).
+abbrev pub fields_told : Result ℕ Malformed → List ℕ
+fields_told (Ok n) = n ∷ 0 ∷ 0 ∷ []
+fields_told (Err m) = 0 ∷ 1 ∷ m.place ∷ []
+
+abbrev pub outcome_of_row : Result (Option RowFound) Refusal → Outcome
+outcome_of_row (Ok (Some r)) = answered (r.end ∷ r.next ∷ fields_told r.fields)
+outcome_of_row (Ok None) = absent []
+outcome_of_row (Err r) = refusal (number_of r.reason) r.place
+
+-- A field, where there is one.
+abbrev pub span_told : Option Span → Outcome
+span_told (Some f) = answered (span_values f)
+span_told None = absent []
+
+abbrev pub field_told : Result (Option Span) Refusal → Outcome
+field_told (Ok found) = span_told found
+field_told (Err r) = refusal (number_of r.reason) r.place

@@ -1,11 +1,12 @@
-#![tactic(auto)]
+#![tactic(auto, unfolding(refusal::specs::Check::first, refusal::specs::Check::refused_if, refusal::specs::Outcome::after))]
 
 // Separated text: rows of fields, of which some stand in quotes. Any bytes and any offset are answered for.
-ghost use Rattle.std.specs.Prelude.{◌≡◌, ◌+◌, ◌≤◌, length};
+ghost use Rattle.std.specs.Prelude.{◌≡◌, ◌+◌, ◌≤◌, length, IfOk};
+ghost use Rattle.refusal.specs.Check.{check_of};
 ghost use Rattle.worklist.specs.Rows as spec;
 
 use parts::byte;
-use refusal::{Refusal, SETTINGS};
+use refusal::{Reason, Refusal};
 
 pub const QUOTE: u8 = 34;
 
@@ -15,207 +16,169 @@ pub const LF: u8 = 10;
 
 pub const MOST_SEPARATOR: u32 = 255;
 
-// Where a quoted field is closed: the place behind its closing quote.
-#[derive(Clone, Copy)]
-pub enum Closing {
-    Behind(usize),
-    Never,
+// The place where a row is malformed.
+#[derive(Clone, Copy, PartialEq, Eq, Debug)]
+pub struct Malformed {
+    pub place: usize,
 }
 
-// A field: where it ends and whether it is quoted, or the place where its row is malformed.
+// Where a field ends, and whether it is quoted.
 #[derive(Clone, Copy)]
-pub enum FieldEnd {
-    Whole(usize, bool),
-    Faulty(usize),
+pub struct FieldEnd {
+    pub end: usize,
+    pub quoted: bool,
 }
 
 // A field of a row, by its place and length.
-#[derive(Clone, Copy)]
+#[derive(Clone, Copy, PartialEq, Eq, Debug)]
 pub struct Span {
     pub at: usize,
     pub length: usize,
     pub quoted: bool,
 }
 
-// A row that was read: where it ends, how many fields it has, and one of them; or the place where it is malformed.
+// A row that was read: where it ends, how many fields it has, and the one that was sought, where it has that.
 #[derive(Clone, Copy)]
-pub enum Walked {
-    Whole(usize, usize, Span),
-    Malformed(usize),
+pub struct Walked {
+    pub end: usize,
+    pub fields: usize,
+    pub found: Option<Span>,
 }
 
-// What is answered for a row: where it ends and where the next begins, and the number of its fields or the place where it is
-// malformed.
-#[derive(Clone, Copy)]
-pub enum RowAnswer {
-    Whole {
-        end: usize,
-        next: usize,
-        fields: usize,
-    },
-    Malformed {
-        end: usize,
-        next: usize,
-        place: usize,
-    },
-    Absent,
-    Refused(Refusal),
-}
-
-// What is answered for a field.
-#[derive(Clone, Copy)]
-pub enum FieldAnswer {
-    Found(Span),
-    Absent,
-    Refused(Refusal),
+// A row: where it ends and where the next begins, and the number of its fields, or the place where it is malformed.
+#[derive(Clone, Copy, PartialEq, Eq, Debug)]
+pub struct RowFound {
+    pub end: usize,
+    pub next: usize,
+    pub fields: Result<usize, Malformed>,
 }
 
 // Whether a number cannot be a separator.
+#[tactic(auto, unfolding(crate::specs::Rows::no_separator), using(std::proofs::lemmas::Bool::Decides::nat_tests))]
 fn no_separator(separator: u32) -> bool
     ensures { result ≡ spec.no_separator separator }
 {
-    if MOST_SEPARATOR < separator {
-        return true;
+    MOST_SEPARATOR < separator
+        || separator == u32::from(QUOTE)
+        || separator == u32::from(CR)
+        || separator == u32::from(LF)
+}
+
+// The separator as a byte. Refusal 11.
+#[tactic(auto, unfolding(refusal::specs::Check::refused_if, crate::specs::Rows::no_separator), using(std::proofs::lemmas::Bool::Decides::nat_tests))]
+fn separator_byte(separator: u32) -> Result<u8, Refusal>
+    ensures check { check_of result ≡ spec.separator_check separator }
+    ensures value { IfOk result (λ b. b ≡ separator) }
+{
+    if no_separator(separator) {
+        return Err(Reason::Settings.at(0));
     }
-    if separator == QUOTE as u32 {
-        return true;
-    }
-    if separator == CR as u32 {
-        return true;
-    }
-    separator == LF as u32
+    Ok(separator as u8)
 }
 
 // Whether a byte ends a plain field.
+#[tactic(auto, unfolding(crate::specs::Rows::stops), using(std::proofs::lemmas::Bool::Decides::nat_tests))]
 fn stops(b: u8, separator: u8) -> bool
     ensures { result ≡ spec.stops separator b }
 {
-    if b == separator {
-        return true;
-    }
-    if b == CR {
-        return true;
-    }
-    b == LF
+    b == separator || b == CR || b == LF
 }
 
 // The first separator, CR or LF from a place on, or the text's end.
 fn stop_from(text: &[u8], from: usize, separator: u8) -> usize
     ensures { result ≡ spec.stop_at separator text.now from }
 {
-    let mut at = from;
-    while at < text.len() {
+    for at in from..text.len() {
         if stops(text[at], separator) {
             return at;
         }
-        at += 1;
     }
-    at
+    from.max(text.len())
 }
 
-// Where a quoted field is closed, from the byte behind its opening quote on. `pending`: the byte before is a quote, which closes
-// the field unless another follows.
-fn closing_from(text: &[u8], from: usize) -> Closing
+// The place behind the closing quote of a field, from the byte behind its opening quote on, where it is closed. `pending`: the
+// byte before is a quote, which closes the field unless another follows.
+fn closing_from(text: &[u8], from: usize) -> Option<usize>
     ensures { result ≡ spec.closing_at text.now from }
 {
     let mut pending = false;
-    let mut at = from;
-    while at < text.len() {
+    for at in from..text.len() {
         if text[at] == QUOTE {
             pending = !pending;
-        } else {
-            if pending {
-                return Closing::Behind(at);
-            }
+        } else if pending {
+            return Some(at);
         }
-        at += 1;
     }
-    if pending {
-        return Closing::Behind(at);
-    }
-    Closing::Never
+    if pending { Some(text.len()) } else { None }
 }
 
 // Whether a field may end at a place.
+#[tactic(auto, unfolding(crate::specs::Rows::ends_field), using(std::proofs::lemmas::Bool::Decides::nat_tests))]
 fn ends_field(text: &[u8], at: usize, separator: u8) -> bool
     ensures { result ≡ spec.ends_field separator text.now at }
 {
-    if text.len() <= at {
-        return true;
-    }
-    stops(text[at], separator)
+    text.len() <= at || stops(text[at], separator)
 }
 
 // Whether a separator stands at a place.
+#[tactic(auto, unfolding(crate::specs::Rows::separator_at), using(std::proofs::lemmas::Bool::Decides::nat_tests))]
 fn separator_at(text: &[u8], at: usize, separator: u8) -> bool
     ensures { result ≡ spec.separator_at separator text.now at }
 {
-    if text.len() <= at {
-        return false;
-    }
-    text[at] == separator
+    at < text.len() && text[at] == separator
 }
 
 // The field that begins at a place.
-fn field_end(text: &[u8], at: usize, separator: u8) -> FieldEnd
+#[tactic(auto, unfolding(crate::specs::Rows::field_at, crate::specs::Rows::quoted_field), using(std::proofs::lemmas::Bool::Decides::nat_tests))]
+fn field_end(text: &[u8], at: usize, separator: u8) -> Result<FieldEnd, Malformed>
     ensures { result ≡ spec.field_at separator text.now at }
 {
     if byte(text, at) != QUOTE {
-        return FieldEnd::Whole(stop_from(text, at, separator), false);
+        let end = stop_from(text, at, separator);
+        return Ok(FieldEnd { end, quoted: false });
     }
     match closing_from(text, at + 1) {
-        Closing::Never => FieldEnd::Faulty(at),
-        Closing::Behind(end) => {
-            if ends_field(text, end, separator) {
-                return FieldEnd::Whole(end, true);
+        None => Err(Malformed { place: at }),
+        Some(end) => {
+            if !ends_field(text, end, separator) {
+                return Err(Malformed { place: end });
             }
-            FieldEnd::Faulty(end)
+            Ok(FieldEnd { end, quoted: true })
         }
     }
 }
 
-// One of two fields: the second where `number` is the sought column.
-fn kept(old: Span, new: Span, number: usize, column: usize) -> Span
-    ensures { result ≡ spec.kept_of old new number column }
-{
-    if number == column { new } else { old }
-}
-
-// The row that begins at a place, and the field of a column, zeros where it has no such field.
-fn walk(text: &[u8], at: usize, separator: u8, column: usize) -> Walked
+// The row that begins at a place, and the field of a column.
+fn walk(text: &[u8], at: usize, separator: u8, column: usize) -> Result<Walked, Malformed>
     requires { at ≤ length text.now }
     ensures { result ≡ spec.walked_of (spec.row_at separator text.now at) column }
 {
     let mut from = at;
     let mut fields = 0;
-    let mut found = Span {
-        at: 0,
-        length: 0,
-        quoted: false,
-    };
+    let mut found = None;
     loop {
-        match field_end(text, from, separator) {
-            FieldEnd::Faulty(place) => {
-                return Walked::Malformed(place);
-            }
-            FieldEnd::Whole(end, quoted) => {
-                let new = Span {
-                    at: from,
-                    length: end - from,
-                    quoted,
-                };
-                found = kept(found, new, fields, column);
-                fields += 1;
-                if !separator_at(text, end, separator) {
-                    return Walked::Whole(end, fields, found);
-                }
-                from = end + 1;
-            }
+        let field = field_end(text, from, separator)?;
+        if fields == column {
+            found = Some(Span {
+                at: from,
+                length: field.end - from,
+                quoted: field.quoted,
+            });
         }
+        fields += 1;
+        if !separator_at(text, field.end, separator) {
+            return Ok(Walked {
+                end: field.end,
+                fields,
+                found,
+            });
+        }
+        from = field.end + 1;
     }
 }
 
 // The place behind the line end at a place; that place where none stands there.
+#[tactic(auto, unfolding(crate::specs::Rows::behind_line_end), using(std::proofs::lemmas::Bool::Decides::nat_tests))]
 fn behind_line_end(text: &[u8], at: usize) -> usize
     ensures { result ≡ spec.behind_line_end text.now at }
 {
@@ -232,73 +195,57 @@ fn behind_line_end(text: &[u8], at: usize) -> usize
     at + 1
 }
 
-// The row that begins at a place.
-pub fn row(text: &[u8], at: usize, separator: u32) -> RowAnswer
+// The row that begins at a place, where one does.
+pub fn row(text: &[u8], at: usize, separator: u32) -> Result<Option<RowFound>, Refusal>
     ensures { spec.outcome_of_row result ≡ spec.row_outcome text.now at separator }
 {
-    if no_separator(separator) {
-        return RowAnswer::Refused(Refusal {
-            number: SETTINGS,
-            place: 0,
-        });
-    }
+    let separator = separator_byte(separator)?;
     if text.len() <= at {
-        return RowAnswer::Absent;
+        return Ok(None);
     }
-    match walk(text, at, separator as u8, 0) {
-        Walked::Whole(end, fields, _) => RowAnswer::Whole {
-            end,
-            next: behind_line_end(text, end),
-            fields,
-        },
-        Walked::Malformed(place) => {
-            let end = stop_from(text, place, LF);
-            RowAnswer::Malformed {
+    match walk(text, at, separator, 0) {
+        Ok(walked) => Ok(Some(RowFound {
+            end: walked.end,
+            next: behind_line_end(text, walked.end),
+            fields: Ok(walked.fields),
+        })),
+        Err(malformed) => {
+            let end = stop_from(text, malformed.place, LF);
+            Ok(Some(RowFound {
                 end,
                 next: behind_line_end(text, end),
-                place,
-            }
+                fields: Err(malformed),
+            }))
         }
     }
 }
 
-// The field of a column of the row that begins at a place.
-pub fn field(text: &[u8], at: usize, separator: u32, column: usize) -> FieldAnswer
+// The field of a column of the row that begins at a place, where there is one.
+pub fn field(text: &[u8], at: usize, separator: u32, column: usize) -> Result<Option<Span>, Refusal>
     ensures { spec.field_told result ≡ spec.field_outcome text.now at separator column }
 {
-    if no_separator(separator) {
-        return FieldAnswer::Refused(Refusal {
-            number: SETTINGS,
-            place: 0,
-        });
-    }
+    let separator = separator_byte(separator)?;
     if text.len() <= at {
-        return FieldAnswer::Absent;
+        return Ok(None);
     }
-    match walk(text, at, separator as u8, column) {
-        Walked::Malformed(_) => FieldAnswer::Absent,
-        Walked::Whole(_, fields, found) => {
-            if fields <= column {
-                return FieldAnswer::Absent;
-            }
-            FieldAnswer::Found(found)
-        }
+    match walk(text, at, separator, column) {
+        Ok(walked) => Ok(walked.found),
+        Err(_) => Ok(None),
     }
 }
 
 // The bytes of that field, as the part of the text where it stands; empty where there is none.
 pub fn field_part(text: &[u8], at: usize, separator: u32, column: usize) -> &[u8]
-    ensures result_value { result.now ≡ spec.field_part text.now (spec.field_outcome text.now at separator column) }
-    ensures ref_ptr_value { result.ref_ptr.0 ≡ text.entry.ref_ptr.0 }
-    ensures ref_ptr_value_2 { result.ref_ptr.1 ≡ text.entry.ref_ptr.1 + spec.place_of (spec.field_outcome text.now at separator column) }
+    ensures value { result.now ≡ spec.field_part text.now (spec.field_outcome text.now at separator column) }
+    ensures part { result.ref_ptr.0 ≡ text.entry.ref_ptr.0 }
+    ensures place { result.ref_ptr.1 ≡ text.entry.ref_ptr.1 + spec.place_of (spec.field_outcome text.now at separator column) }
 {
     match field(text, at, separator, column) {
-        FieldAnswer::Found(found) => {
-            let start = found.at;
-            let end = start + found.length;
-            &text[start..end]
+        Ok(Some(found)) => {
+            let end = found.at + found.length;
+            &text[found.at..end]
         }
-        FieldAnswer::Absent => &text[0..0],
-        FieldAnswer::Refused(_) => &text[0..0],
+        Ok(None) => &text[0..0],
+        Err(_) => &text[0..0],
     }
 }

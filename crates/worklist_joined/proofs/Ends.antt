@@ -11,12 +11,12 @@ use lib.ListN.{length, drop, length-drop}
 use lib.Seq.{get_or-drop}
 use Rattle.parts.specs.Part.{byte_at}
 use Rattle.parts.proofs.Laws.{by-test}
-use Rattle.worklist.specs.declared.Closing.{Closing}
-use Rattle.worklist.specs.declared.Closing.TheVariants.{Behind, Never}
+use Rattle.std.specs.Prelude.{Option, Some, None, Result, Ok, Err}
+use Rattle.worklist.specs.declared.Malformed.{Malformed}
 use Rattle.worklist.specs.declared.FieldEnd.{FieldEnd}
-use Rattle.worklist.specs.declared.FieldEnd.TheVariants as field
 use Rattle.worklist.specs.declared.Span.{Span}
-use Rattle.worklist.specs.Rows.{quote, cr, lf, stops, stop_from, stop_at, closing_at, ends_field, quoted_field, field_at, separator_at, span_of}
+use Rattle.worklist.specs.Rows.{quote, cr, lf, stops, stop_from, stop_at, closing_at, ends_field, quoted_field, field_at, field_to, faulty}
+use Rattle.worklist.specs.Rows.{separator_at, span_of}
 use Rattle.worklist.specs.Rows.{Row, whole, malformed, in_front, step_of_row, row_by, row_at, row_end}
 use Rattle.worklist.proofs.Laws.{there}
 use Rattle.worklist.proofs.Rows.{stop-range, closing-range, field-cases, field-forward, field-inside, separator-inside}
@@ -64,7 +64,7 @@ stop-ends sep t at l =
 -- ---- where a row ends
 
 module _ (sep : ℕ) (t : List ℕ) where
-  field-ends : (at end : ℕ) (quoted : Bool) → at ≤ length t → field_at sep t at ≡ field.Whole end quoted → separator_at sep t end ≡ false → EndsLine t end
+  field-ends : (at end : ℕ) (quoted : Bool) → at ≤ length t → field_at sep t at ≡ field_to end quoted → separator_at sep t end ≡ false → EndsLine t end
   unfolding ends_field
   field-ends at end quoted l e s =
       let within = field-inside sep t at end quoted l e in
@@ -92,34 +92,39 @@ module _ (sep : ℕ) (t : List ℕ) where
       let e = fields-end f in
       record { forward = omega (arith, field-forward sep t at stop quoted is, e.forward); inside = e.inside; line = e.line }
 
+  place-same : {a b : ℕ} → ◌≡◌ {A = Result FieldEnd Malformed} (faulty a) (faulty b) → a ≡ b
+  place-same {a} {b} e =
+      let r : ◌≡◌ {A = Malformed} (record { place = a }) (record { place = b }) = cc in
+      ap (λ m. m.place) r
+
   -- the place where a row is malformed
   pub record Faulty (at place : ℕ) : Type 0 where
     pub forward : at ≤ place
     pub inside : place ≤ length t
 
-  by-closing : (at place : ℕ) → byte_at t at ≡ quote → (k : Closing) → closing_at t (at + 1) ≡ k → quoted_field sep t at k ≡ field.Faulty place → Faulty at place
+  by-closing : (at place : ℕ) → byte_at t at ≡ quote → (k : Option ℕ) → closing_at t (at + 1) ≡ k → quoted_field sep t at k ≡ faulty place → Faulty at place
   unfolding quoted_field
-  by-closing at place o Never q e =
-      let same : at ≡ place = cc in
+  by-closing at place o None q e =
+      let same = place-same e in
       record { forward = omega arith; inside = omega (arith, there t at quote (sym o) (omega arith)) }
-  by-closing at place o (Behind end) q e =
+  by-closing at place o (Some end) q e =
       by-test (ends_field sep t end)
-      (λ h. let g : field.Whole end true ≡ field.Faulty place = rw h at e in absurd (let z : ◌≡◌ {A = ℕ} 0 1 = cc in omega arith))
+      (λ h. let g : field_to end true ≡ faulty place = rw h at e in absurd (let z : ◌≡◌ {A = ℕ} 0 1 = cc in omega arith))
       (λ h.
-      let g : field.Faulty end ≡ field.Faulty place = rw h at e in
-      let same : end ≡ place = cc in
+      let g : faulty end ≡ faulty place = rw h at e in
+      let same = place-same g in
       let r = closing-range false (at + 1) (drop (at + 1) t) end q in
       record {
         forward = omega (arith, r.0);
         inside = omega (arith, r.1, length-drop (at + 1) t, there t at quote (sym o) (omega arith));
       })
 
-  field-faulty : (at place : ℕ) → field_at sep t at ≡ field.Faulty place → Faulty at place
+  field-faulty : (at place : ℕ) → field_at sep t at ≡ faulty place → Faulty at place
   unfolding field_at
   field-faulty at place e =
       by-test (eqb (byte_at t at) quote)
       (λ h. by-closing at place (eqb-true _ _ h) (closing_at t (at + 1)) refl (rw h at e))
-      (λ h. let g : field.Whole (stop_at sep t at) false ≡ field.Faulty place = rw h at e in absurd (let z : ◌≡◌ {A = ℕ} 0 1 = cc in omega arith))
+      (λ h. let g : field_to (stop_at sep t at) false ≡ faulty place = rw h at e in absurd (let z : ◌≡◌ {A = ℕ} 0 1 = cc in omega arith))
 
   faulty-more : (at stop place : ℕ) (f : Span) → at ≤ stop → (r : Row) → ((p : ℕ) → r ≡ malformed p → Faulty (stop + 1) p)
       → in_front f r ≡ malformed place → Faulty at place
@@ -130,15 +135,15 @@ module _ (sep : ℕ) (t : List ℕ) where
       record { forward = omega (arith, i.forward); inside = i.inside }
 
   faulty-step : (at place : ℕ) → at ≤ length t → (next : ℕ → Row) → ((from : ℕ) → from ≤ length t → (p : ℕ) → next from ≡ malformed p → Faulty from p)
-      → (f : FieldEnd) → field_at sep t at ≡ f → step_of_row sep t at f next ≡ malformed place → Faulty at place
+      → (f : Result FieldEnd Malformed) → field_at sep t at ≡ f → step_of_row sep t at f next ≡ malformed place → Faulty at place
   unfolding step_of_row
-  faulty-step at place l next ih (field.Faulty p) is e =
-      let same : p ≡ place = cc in field-faulty at place (is ∙ ap field.Faulty same)
-  faulty-step at place l next ih (field.Whole stop quoted) is e =
-      by-test (separator_at sep t stop)
-      (λ s. faulty-more at stop place (span_of at stop quoted) (field-forward sep t at stop quoted is) (next (stop + 1))
-      (ih (stop + 1) (omega (arith, separator-inside sep t stop s))) (rw s at e))
-      (λ s. let g : whole (span_of at stop quoted ∷ []) stop ≡ malformed place = rw s at e in absurd (let z : ◌≡◌ {A = ℕ} 0 1 = cc in omega arith))
+  faulty-step at place l next ih (Err m) is e =
+      let same : m.place ≡ place = cc in field-faulty at place (is ∙ ap faulty same)
+  faulty-step at place l next ih (Ok f) is e =
+      by-test (separator_at sep t f.end)
+      (λ s. faulty-more at f.end place (span_of at f.end f.quoted) (field-forward sep t at f.end f.quoted is) (next (f.end + 1))
+      (ih (f.end + 1) (omega (arith, separator-inside sep t f.end s))) (rw s at e))
+      (λ s. let g : whole (span_of at f.end f.quoted ∷ []) f.end ≡ malformed place = rw s at e in absurd (let z : ◌≡◌ {A = ℕ} 0 1 = cc in omega arith))
 
   faulty-by : (turns at : ℕ) → at ≤ length t → (place : ℕ) → row_by turns sep t at ≡ malformed place → Faulty at place
   unfolding row_by

@@ -1,25 +1,31 @@
 -- The fields of a row, joined by the separator, are the row: rule D10.
 use mathlib.Core.Path.{◌≡◌, refl, sym, ap, ap₂, ◌∙◌, subst}
-use mathlib.Core.Bool.{Bool, true, false, false≢true}
+use mathlib.Core.Bool.{true, false, false≢true}
 use mathlib.Core.List.{List, [], ◌∷◌, ◌++◌, append_assoc, append-nil}
 use Prim.Native.Nat.{ℕ, zero, suc, ◌+◌, ◌-◌, ◌≤◌, ◌<◌}
 use native.Mathlib.Nat.{not-suc-le-zero, le_of_suc-le-suc}
 use native.Mathlib.Omega.{arith}
-use borrow.Author.Tests.{lt-ltb, ltb-true, ltb-false, eqb-true}
+use borrow.Author.Tests.{lt-ltb, le-ltb, eqb-true}
 use lib.Dec.{ltb, eqb}
-use lib.ListN.{length, take, drop, get_or, length-append, drop_of_length-le}
-use Rattle.refusal.specs.Outcome.{Outcome, answered, absent, refusal}
+use lib.ListN.{length, take, drop, length-append, drop_of_length-le}
+use Rattle.refusal.specs.Outcome.{answered}
 use Rattle.parts.specs.Part.{byte_at, part_at, overlay}
 use Rattle.parts.proofs.Laws.{by-test, both, overlay-after, part_at-length}
 use Rattle.parts.proofs.Parts.{part-add}
+use Rattle.std.specs.Prelude.{Some, Result, Ok, Err}
+use Rattle.worklist.specs.declared.Malformed.{Malformed}
+use Rattle.worklist.specs.declared.RowFound.{RowFound}
 use Rattle.worklist.specs.declared.Span.{Span}
 use Rattle.worklist.specs.Rows.{no_separator, separator_at, Row, whole, malformed, row_at, row_end, row_kind, row_values, row_outcome}
+use Rattle.worklist.specs.Rows.{fields_told, outcome_of_row}
 use Rattle.worklist.specs.Rows.{span_values, column_of, field_in, field_outcome, place_of, length_of, field_part, span_in}
 use Rattle.worklist.proofs.Laws.{behind}
 use Rattle.worklist.proofs.Rows.{field-forward, separator-inside}
 use Rattle.worklist.proofs.Fields.{Fields, last, more, fields-of}
-use Rattle.worklist.proofs.Told.{no-separator-told, no-row-told, row_told, column-here}
+use Rattle.worklist.proofs.Told.{row_told, column-here}
 use Rattle.worklist_joined.proofs.Ends.{fields-end}
+use Rattle.worklist_joined.proofs.RowLaws.{row-told}
+use mathlib.Core.Logic.{◌⊎◌, ⊎_elim}
 use Rattle.worklist_joined.specs.Joined.{field_bytes, behind_separators, joined_fields, FieldsJoined, field_of, fields_of, joined_row, laid_field, laid_row}
 use Rattle.worklist_joined.specs.Joined.{copied_fields, HasFields}
 
@@ -36,7 +42,8 @@ module _ (sep : ℕ) (t : List ℕ) where
   fields-more (more l is s f) = refl
 
   -- a separator in front of a part
-  separator-and-part : (stop end : ℕ) → stop < end → separator_at sep t stop ≡ true → sep ∷ part_at t (stop + 1) (end - (stop + 1)) ≡ part_at t stop (end - stop)
+  separator-and-part : (stop end : ℕ) → stop < end → separator_at sep t stop ≡ true
+      → sep ∷ part_at t (stop + 1) (end - (stop + 1)) ≡ part_at t stop (end - stop)
   separator-and-part stop end l s =
       let size : end - stop ≡ suc (end - (stop + 1)) = omega arith in
       sym (ap₂ take size (behind t stop (separator-inside sep t stop s))
@@ -66,51 +73,49 @@ module _ (sep : ℕ) (t : List ℕ) where
 
 -- ---- what the row's answer tells of it
 
-unfoldable pub whole_row : Outcome → Bool
-whole_row (answered values) = eqb (get_or values 3 1) 0
-whole_row (absent values) = false
-whole_row (refusal number place) = false
+not-whole : {A : Type 0} (t : List ℕ) (fields : List Span) (end : ℕ) {end' next place : ℕ}
+    → answered (end' ∷ next ∷ 0 ∷ 1 ∷ place ∷ []) ≡ answered (row_values t (whole fields end)) → A
+unfolding row_values row_end row_kind
+not-whole t fields end e = absurd (let z : ◌≡◌ {A = ℕ} 0 1 = cc in omega arith)
 
 module _ (sep : ℕ) (t : List ℕ) (at : ℕ) where
-  malformed-stays : (r : Row) (out : List ℕ) → whole_row (answered (row_values t r)) ≡ false → laid_row t at r out ≡ out
-  unfolding whole_row row_values row_end row_kind laid_row
-  malformed-stays (whole fields end) out e = absurd (false≢true (sym e))
+  -- where no row begins, and where it is malformed, the output stays
+  pub stays : (out : List ℕ) → (no_separator sep ≡ true) ⊎ (length t ≤ at) → out ≡ copied_fields sep t at out
+  stays out done =
+      by-test (no_separator sep) (λ h. rw h)
+      (λ h.
+      let l : length t ≤ at = ⊎_elim (λ g. absurd (false≢true (sym h ∙ g))) (λ g. g) done in
+      rw (h, le-ltb at (length t) l))
+
+  malformed-stays : (r : Row) (out : List ℕ) {end next place : ℕ} → answered (end ∷ next ∷ 0 ∷ 1 ∷ place ∷ []) ≡ answered (row_values t r)
+      → out ≡ laid_row t at r out
+  unfolding laid_row
+  malformed-stays (whole fields end) out e = not-whole t fields end e
   malformed-stays (malformed place) out e = refl
 
-  -- where no whole row is told, the output stays
-  pub stays : (out : List ℕ) (told : Outcome) → told ≡ row_outcome t at sep → whole_row told ≡ false → out ≡ copied_fields sep t at out
-  stays out told e w =
-      by-test (no_separator sep) (λ h. rw h)
-      (λ h. by-test (ltb at (length t))
-      (λ l. rw (h, l) (sym (malformed-stays (row_at sep t at) out (ap whole_row (row_told sep false (sym h) t at _ refl (ltb-true _ _ l) refl ∙ sym e) ∙ w))))
-      (λ l. rw (h, l)))
+  fields-told : (f : RowFound) {x : Result ℕ Malformed} → outcome_of_row (Ok (Some f)) ≡ row_outcome t at sep → f.fields ≡ x
+      → answered (f.end ∷ f.next ∷ fields_told x) ≡ row_outcome t at sep
+  fields-told f e g = ap (λ y. answered (f.end ∷ f.next ∷ fields_told y)) (sym g) ∙ e
 
-  count-told : (r : Row) → row_at sep t at ≡ r → at < length t → (end next n : ℕ) → (end ∷ next ∷ n ∷ 0 ∷ 0 ∷ []) ≡ row_values t r
+  pub malformed_row : (out : List ℕ) (f : RowFound) {m : Malformed} → outcome_of_row (Ok (Some f)) ≡ row_outcome t at sep → f.fields ≡ Err m
+      → out ≡ copied_fields sep t at out
+  malformed_row out f e g =
+      let r = row-told t at sep (fields-told f e g) in
+      rw (r.separator, lt-ltb at (length t) r.inside) (malformed-stays (row_at sep t at) out r.values)
+
+  count-told : (r : Row) → row_at sep t at ≡ r → at < length t → {end next n : ℕ} → answered (end ∷ next ∷ n ∷ 0 ∷ 0 ∷ []) ≡ answered (row_values t r)
       → (0 < n) × (n ≡ length (fields_of r))
   unfolding row_values row_end row_kind fields_of
-  count-told (whole fields stop) is l end next n e =
-      let count : n ≡ length fields = cc in
-      (omega (arith, fields-some sep t (fields-of sep t at (omega arith) fields stop is)), count)
-  count-told (malformed place) is l end next n e = absurd (let z : ◌≡◌ {A = ℕ} 0 1 = cc in omega arith)
+  count-told (whole fields stop) is l {n = n} e =
+      let count : length fields ≡ n = cc in
+      (omega (arith, fields-some sep t (fields-of sep t at (omega arith) fields stop is)), sym count)
+  count-told (malformed place) is l e = absurd (let z : ◌≡◌ {A = ℕ} 0 1 = cc in omega arith)
 
-  pub has-fields : (end next n : ℕ) → answered (end ∷ next ∷ n ∷ 0 ∷ 0 ∷ []) ≡ row_outcome t at sep → HasFields sep t at n
-  has-fields end next n e =
-      by-test (no_separator sep) (λ h. absurd (never (e ∙ sym (no-separator-told sep true (sym h) t at _ refl))))
-      (λ h. by-test (ltb at (length t))
-      (λ l. told h (ltb-true _ _ l) (e ∙ sym (row_told sep false (sym h) t at _ refl (ltb-true _ _ l) refl)))
-      (λ l. absurd (not-absent (e ∙ sym (no-row-told sep false (sym h) t at _ refl (ltb-false _ _ l))))))
-    where
-      never : {v : List ℕ} {a b : ℕ} → answered v ≡ refusal a b → ⊥
-      never g = let z : ◌≡◌ {A = ℕ} 0 1 = cc in omega arith
-
-      not-absent : {v w : List ℕ} → answered v ≡ absent w → ⊥
-      not-absent g = let z : ◌≡◌ {A = ℕ} 0 1 = cc in omega arith
-
-      told : no_separator sep ≡ false → at < length t → answered (end ∷ next ∷ n ∷ 0 ∷ 0 ∷ []) ≡ answered (row_values t (row_at sep t at)) → HasFields sep t at n
-      told h l g =
-          let v : (end ∷ next ∷ n ∷ 0 ∷ 0 ∷ []) ≡ row_values t (row_at sep t at) = cc in
-          let c = count-told (row_at sep t at) refl l end next n v in
-          record { separator = h; inside = l; some = c.0; all = c.1 }
+  pub has-fields : (f : RowFound) {n : ℕ} → outcome_of_row (Ok (Some f)) ≡ row_outcome t at sep → f.fields ≡ Ok n → HasFields sep t at n
+  has-fields f e g =
+      let r = row-told t at sep (fields-told f e g) in
+      let c = count-told (row_at sep t at) refl r.inside r.values in
+      record { separator = r.separator; inside = r.inside; some = c.0; all = c.1 }
 
 -- ---- a row that has fields
 

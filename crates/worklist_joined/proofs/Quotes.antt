@@ -12,10 +12,9 @@ use lib.ListN.{length, take, drop}
 use lib.Seq.{get_or-drop}
 use Rattle.parts.specs.Part.{byte_at, part_at}
 use Rattle.parts.proofs.Laws.{by-test}
-use Rattle.worklist.specs.declared.Closing.TheVariants.{Behind}
-use Rattle.worklist.specs.declared.FieldEnd.TheVariants as field
+use Rattle.std.specs.Prelude.{Some}
 use Rattle.worklist.specs.declared.Span.{Span}
-use Rattle.worklist.specs.Rows.{quote, stops, stop_from, closing_from, field_at, span_of, span_in}
+use Rattle.worklist.specs.Rows.{quote, stops, stop_from, closing_from, field_at, field_to, span_of, span_in}
 use Rattle.worklist.proofs.Laws.{there, behind}
 use Rattle.worklist.proofs.Rows.{closing-range, Quoted, field-cases}
 use Rattle.worklist.proofs.Fields.{Fields, last, more, fields-of}
@@ -60,27 +59,27 @@ pending-quote false bytes = bytes
 step : (at end : ℕ) → at + 1 ≤ end → (b : ℕ) (s : List ℕ) → take (end - at) (b ∷ s) ≡ b ∷ take (end - (at + 1)) s
 step at end l b s = let size : end - at ≡ suc (end - (at + 1)) = omega arith in rw size
 
-closed-by : (pending : Bool) (at : ℕ) (s : List ℕ) (end : ℕ) → closing_from pending at s ≡ Behind end → Closed (pending-quote pending (take (end - at) s))
+closed-by : (pending : Bool) (at : ℕ) (s : List ℕ) (end : ℕ) → closing_from pending at s ≡ Some end → Closed (pending-quote pending (take (end - at) s))
 unfolding closing_from pending-quote
 closed-by false at [] end e = absurd (let z : ◌≡◌ {A = ℕ} 0 1 = cc in omega arith)
 closed-by true at [] end e = let same : at ≡ end = cc in let none : end - at ≡ 0 = omega arith in rw none closed_none
 closed-by false at (b ∷ s) end e =
     by-test (eqb b quote)
     (λ h.
-    let g : closing_from true (at + 1) s ≡ Behind end = ap (λ p. closing_from p (at + 1) s) (sym h) ∙ e in
+    let g : closing_from true (at + 1) s ≡ Some end = ap (λ p. closing_from p (at + 1) s) (sym h) ∙ e in
     let is : b ≡ quote = eqb-true _ _ h in
     rw (step at end (closing-range true (at + 1) s end g).0 b s, is) (closed-by true (at + 1) s end g))
     (λ h.
-    let g : closing_from false (at + 1) s ≡ Behind end = ap (λ p. closing_from p (at + 1) s) (sym h) ∙ e in
+    let g : closing_from false (at + 1) s ≡ Some end = ap (λ p. closing_from p (at + 1) s) (sym h) ∙ e in
     rw (step at end (closing-range false (at + 1) s end g).0 b s) (closed-other b h (closed-by false (at + 1) s end g)))
 closed-by true at (b ∷ s) end e =
     by-test (eqb b quote)
     (λ h.
-    let g : closing_from false (at + 1) s ≡ Behind end = rw h at e in
+    let g : closing_from false (at + 1) s ≡ Some end = rw h at e in
     let is : b ≡ quote = eqb-true _ _ h in
     rw (step at end (closing-range false (at + 1) s end g).0 b s, is) (closed-doubled (closed-by false (at + 1) s end g)))
     (λ h.
-    let g : Behind at ≡ Behind end = rw h at e in
+    let g : Some at ≡ Some end = rw h at e in
     let same : at ≡ end = cc in
     let none : end - at ≡ 0 = omega arith in
     rw none closed_none)
@@ -99,7 +98,7 @@ module _ (sep : ℕ) (t : List ℕ) where
       ∙ step at end r.0 (byte_at t at) (drop (at + 1) t) ∙ ap₂ ◌∷◌ q.opened c.is in
       is ∙ ap quoted_text (sym (ap content_of is ∙ back c.content))
 
-  field-holds : (at end : ℕ) (quoted : Bool) → field_at sep t at ≡ field.Whole end quoted → Holds sep t (span_of at end quoted)
+  field-holds : (at end : ℕ) (quoted : Bool) → field_at sep t at ≡ field_to end quoted → Holds sep t (span_of at end quoted)
   field-holds at end quoted e =
       ⊎_elim
       (λ p. record {

@@ -1,20 +1,19 @@
 -- The rows of separated text, each with its line end, joined, are the text: rule D9.
 use mathlib.Core.Path.{◌≡◌, refl, sym, ap, ap₂, ◌∙◌, subst}
-use mathlib.Core.Bool.{Bool, true, false, false≢true}
+use mathlib.Core.Bool.{true, false, false≢true}
 use mathlib.Core.List.{List, [], ◌∷◌, ◌++◌}
-use mathlib.Core.Logic.{⊎_elim}
+use mathlib.Core.Logic.{◌⊎◌, inl, inr, ⊎_elim}
 use Prim.Native.Nat.{ℕ, zero, suc, ◌+◌, ◌-◌, ◌≤◌, ◌<◌}
 use native.Mathlib.Omega.{arith}
 use borrow.Author.Tests.{lt-ltb, le-ltb, ltb-true, ltb-false, eqb-true, eqb-false, eq-eqb, ne_eqb}
 use lib.Dec.{ltb, eqb}
 use lib.ListN.{length, take, drop, length-take, drop_of_length-le, take-append-drop}
 use lib.Seq.{drop-drop, take-add, take_all}
-use Rattle.refusal.specs.Outcome.{Outcome, answered, absent, refusal}
+use Rattle.refusal.specs.Outcome.{answered, absent, refusal}
 use Rattle.parts.specs.Part.{byte_at, part_at, overlay}
 use Rattle.parts.proofs.Laws.{by-test, overlay-none, overlay-after}
 use Rattle.parts.proofs.Parts.{part-add}
-use Rattle.worklist.specs.declared.RowAnswer.{RowAnswer}
-use Rattle.worklist.specs.Rows.{cr, lf, no_separator, behind_line_end, stops, Row, row_at, row_end, row_values, row_outcome, length_of, outcome_of_row}
+use Rattle.worklist.specs.Rows.{cr, lf, no_separator, behind_line_end, stops, Row, row_at, row_end, row_values, row_outcome, length_of}
 use Rattle.worklist.proofs.Laws.{there, behind}
 use Rattle.worklist.proofs.Told.{no-separator-told, no-row-told, row_told}
 use Rattle.worklist_joined.proofs.Ends.{EndsLine, Ends, row_ends}
@@ -194,32 +193,52 @@ rows-joined sep t = record { rows = joined_by sep t (length t) 0 (omega arith); 
 
 -- ---- what a row's answer tells
 
-unfoldable pub is_refusal : Outcome → Bool
-is_refusal (answered values) = false
-is_refusal (absent values) = false
-is_refusal (refusal number place) = true
+answered-absent : {v w : List ℕ} → answered v ≡ absent w → ⊥
+answered-absent e = let z : ◌≡◌ {A = ℕ} 0 1 = cc in omega arith
 
-module _ (t : List ℕ) (at sep : ℕ) where
-  refusal_is : is_refusal (row_outcome t at sep) ≡ no_separator sep
-  unfolding is_refusal
-  refusal_is =
-      by-test (no_separator sep) (λ h. sym (ap is_refusal (no-separator-told sep true (sym h) t at _ refl)) ∙ sym h)
-      (λ h. by-test (ltb at (length t))
-      (λ l. sym (ap is_refusal (row_told sep false (sym h) t at _ refl (ltb-true _ _ l) refl)) ∙ sym h)
-      (λ l. sym (ap is_refusal (no-row-told sep false (sym h) t at _ refl (ltb-false _ _ l))) ∙ sym h))
+answered-refusal : {v : List ℕ} {n p : ℕ} → answered v ≡ refusal n p → ⊥
+answered-refusal e = let z : ◌≡◌ {A = ℕ} 0 1 = cc in omega arith
 
-  pub separator-known : (r : RowAnswer) → outcome_of_row r ≡ row_outcome t at sep → (b : Bool) → is_refusal (outcome_of_row r) ≡ b → no_separator sep ≡ b
-  separator-known r e b h = sym refusal_is ∙ sym (ap is_refusal e) ∙ h
+absent-refusal : {v : List ℕ} {n p : ℕ} → absent v ≡ refusal n p → ⊥
+absent-refusal e = let z : ◌≡◌ {A = ℕ} 0 1 = cc in omega arith
 
 second-value : (t : List ℕ) (r : Row) → length_of (answered (row_values t r)) ≡ behind_line_end t (row_end t r)
 unfolding length_of row_values
 second-value t r = refl
 
-pub next_known : (t : List ℕ) (at sep : ℕ) → no_separator sep ≡ false → at < length t
-    → (r : RowAnswer) → outcome_of_row r ≡ row_outcome t at sep → (n : ℕ) → length_of (outcome_of_row r) ≡ n → n ≡ (line_at sep t at).next
-unfolding line_at
-next_known t at sep h l r e n g =
-    sym g ∙ ap length_of (e ∙ sym (row_told sep false (sym h) t at _ refl l refl)) ∙ second-value t (row_at sep t at)
+-- A row begins at a place, and what is told of it.
+pub record RowTold (t : List ℕ) (at sep : ℕ) (told : List ℕ) : Type 0 where
+  pub separator : no_separator sep ≡ false
+  pub inside : at < length t
+  pub values : answered told ≡ answered (row_values t (row_at sep t at))
+
+module _ (t : List ℕ) (at sep : ℕ) where
+  pub row-told : {values : List ℕ} → answered values ≡ row_outcome t at sep → RowTold t at sep values
+  row-told e =
+      by-test (no_separator sep) (λ h. absurd (answered-refusal (e ∙ sym (no-separator-told sep true (sym h) t at _ refl))))
+      (λ h. by-test (ltb at (length t))
+      (λ l. record { separator = h; inside = ltb-true _ _ l; values = e ∙ sym (row_told sep false (sym h) t at _ refl (ltb-true _ _ l) refl) })
+      (λ l. absurd (answered-absent (e ∙ sym (no-row-told sep false (sym h) t at _ refl (ltb-false _ _ l))))))
+
+  -- where the next row begins
+  pub next_told : {end next : ℕ} {rest : List ℕ} → answered (end ∷ next ∷ rest) ≡ row_outcome t at sep → next ≡ (line_at sep t at).next
+  unfolding line_at length_of
+  next_told e = ap length_of (row-told e).values ∙ second-value t (row_at sep t at)
+
+  -- where no row begins
+  pub none-told : absent [] ≡ row_outcome t at sep → (no_separator sep ≡ true) ⊎ (length t ≤ at)
+  none-told e =
+      by-test (no_separator sep) inl
+      (λ h. by-test (ltb at (length t))
+      (λ l. absurd (answered-absent (row_told sep false (sym h) t at _ refl (ltb-true _ _ l) refl ∙ sym e)))
+      (λ l. inr (ltb-false _ _ l)))
+
+  pub refusal-told : {number place : ℕ} → refusal number place ≡ row_outcome t at sep → (no_separator sep ≡ true) ⊎ (length t ≤ at)
+  refusal-told e =
+      by-test (no_separator sep) inl
+      (λ h. by-test (ltb at (length t))
+      (λ l. absurd (answered-refusal (row_told sep false (sym h) t at _ refl (ltb-true _ _ l) refl ∙ sym e)))
+      (λ l. absurd (absent-refusal (no-row-told sep false (sym h) t at _ refl (ltb-false _ _ l) ∙ sym e))))
 
 -- ---- copying row after row
 
@@ -229,6 +248,7 @@ pub record Copying (sep : ℕ) (t out₀ : List ℕ) (count at : ℕ) (out : Lis
   pub enough : length t - at ≤ turns
   pub inside : at ≤ length t
   pub few : count ≤ at
+  pub none : no_separator sep ≡ true → at ≡ 0
   pub rows : count + length (rows_by turns sep t at) ≡ length (rows_of sep t)
   pub copied : out ≡ overlay out₀ 0 (take at t)
 
@@ -238,6 +258,7 @@ copying-none sep t out₀ = record {
   enough = omega arith;
   inside = omega arith;
   few = omega arith;
+  none = λ h. refl;
   rows = omega arith;
   copied = sym (overlay-none out₀ 0);
 }
@@ -250,28 +271,33 @@ module _ {sep : ℕ} {t out₀ out : List ℕ} {count at : ℕ} (c : Copying sep
       ap₂ (λ o n. overlay o n (part_at t at (next - at))) c.copied (sym size) ∙ overlay-after out₀ 0 (take at t) (part_at t at (next - at))
       ∙ ap (overlay out₀ 0) (sym (take-add at (next - at) t) ∙ ap (λ n. take n t) place)
 
-  row-counted : (turns : ℕ) → length t - at ≤ turns → at < length t → count + length (rows_by turns sep t at) ≡ length (rows_of sep t)
+  row-counted : (turns : ℕ) → length t - at ≤ turns → no_separator sep ≡ false → at < length t
+      → count + length (rows_by turns sep t at) ≡ length (rows_of sep t)
       → (next : ℕ) → next ≡ (line_at sep t at).next
       → (left : List ℕ) → left ≡ overlay out at (part_at t at (next - at)) → Copying sep t out₀ (count + 1) next left
-  row-counted zero f l e next n left g = absurd (omega arith)
-  row-counted (suc turns) f l e next n left g =
+  row-counted zero f k l e next n left g = absurd (omega arith)
+  row-counted (suc turns) f k l e next n left g =
       let r = row_next sep t at l in
       record {
         turns = turns;
         enough = omega (arith, n, r.0);
         inside = omega (arith, n, r.1);
         few = omega (arith, n, r.0, c.few);
+        none = λ h. absurd (false≢true (sym k ∙ h));
         rows = omega (arith, e, ap length (rows_more sep t turns at l), ap (λ m. length (rows_by turns sep t m)) n);
         copied = g ∙ laid next (omega (arith, n, r.0));
       }
 
-  pub copying-on : at < length t → (next : ℕ) → next ≡ (line_at sep t at).next
+  pub copying-on : no_separator sep ≡ false → at < length t → (next : ℕ) → next ≡ (line_at sep t at).next
       → (left : List ℕ) → left ≡ overlay out at (part_at t at (next - at)) → Copying sep t out₀ (count + 1) next left
-  copying-on l next n left g = row-counted c.turns c.enough l c.rows next n left g
+  copying-on k l next n left g = row-counted c.turns c.enough k l c.rows next n left g
 
-  pub copied_all : no_separator sep ≡ false → length t ≤ at → (count ≡ row_count sep t) × (out ≡ copied_rows sep t out₀)
-  copied_all h l =
-      (rw h (omega (arith, c.rows, ap length (rows_none sep t c.turns at l))), rw h (c.copied ∙ ap (overlay out₀ 0) (take_all at t l)))
-
-pub nothing_copied : (sep : ℕ) (t out : List ℕ) → no_separator sep ≡ true → (0 ≡ row_count sep t) × (out ≡ copied_rows sep t out)
-nothing_copied sep t out h = (rw h, rw h)
+  pub copied_all : (no_separator sep ≡ true) ⊎ (length t ≤ at) → (count ≡ row_count sep t) × (out ≡ copied_rows sep t out₀)
+  copied_all done =
+      by-test (no_separator sep)
+      (λ h.
+      let start : at ≡ 0 = c.none h in
+      (rw h (omega (arith, c.few)), rw h (c.copied ∙ ap (λ n. overlay out₀ 0 (take n t)) start ∙ overlay-none out₀ 0)))
+      (λ h.
+      let l : length t ≤ at = ⊎_elim (λ g. absurd (false≢true (sym h ∙ g))) (λ g. g) done in
+      (rw h (omega (arith, c.rows, ap length (rows_none sep t c.turns at l))), rw h (c.copied ∙ ap (overlay out₀ 0) (take_all at t l))))

@@ -1,69 +1,23 @@
 #![tactic(auto)]
 
 // The rows of separated text, and the fields of a row, copied one after the other: what is joined is the text, and the row.
-ghost use Rattle.std.specs.Prelude.{◌≡◌, false, not, ◌+◌, ◌^◌, ◌<◌, ◌≤◌, length};
+ghost use Rattle.std.specs.Prelude.{◌≡◌, ◌+◌, ◌^◌, ◌<◌, ◌≤◌, length};
 ghost use Rattle.parts.specs.Part.{overlay};
-ghost use Rattle.worklist.specs.Rows as rows;
 ghost use Rattle.worklist_joined.specs.Joined as spec;
 
 use parts::{copy, part};
-use worklist::{RowAnswer, field_part, row};
-
-// Whether a number is a separator.
-fn separates(text: &[u8], separator: u32) -> bool
-    ensures { rows.no_separator separator ≡ not result }
-{
-    match row(text, 0, separator) {
-        RowAnswer::Refused(_) => false,
-        RowAnswer::Absent => true,
-        RowAnswer::Whole {
-            end: _,
-            next: _,
-            fields: _,
-        } => true,
-        RowAnswer::Malformed {
-            end: _,
-            next: _,
-            place: _,
-        } => true,
-    }
-}
-
-// Where the row behind the one that begins at a place begins.
-fn next_row(text: &[u8], at: usize, separator: u32) -> usize
-    requires { (rows.no_separator separator ≡ false) × (at < length text.now) }
-    ensures { result ≡ (spec.line_at separator text.now at).next }
-{
-    match row(text, at, separator) {
-        RowAnswer::Whole {
-            end: _,
-            next,
-            fields: _,
-        } => next,
-        RowAnswer::Malformed {
-            end: _,
-            next,
-            place: _,
-        } => next,
-        RowAnswer::Absent => 0,
-        RowAnswer::Refused(_) => 0,
-    }
-}
+use worklist::{field_part, row};
 
 // Copies each row with its line end to the same place of the output, and tells how many there are.
 pub fn copy_rows(text: &[u8], separator: u32, output: &mut [u8]) -> usize
     ensures value { result ≡ spec.row_count separator text.now }
     ensures output_after { output.new ≡ spec.copied_rows separator text.now output.old }
 {
-    if !separates(text, separator) {
-        return 0;
-    }
     let mut count = 0;
     let mut at = 0;
-    while at < text.len() {
-        let next = next_row(text, at, separator);
-        copy(part(text, at, next - at), output, at);
-        at = next;
+    while let Ok(Some(found)) = row(text, at, separator) {
+        copy(part(text, at, found.next - at), output, at);
+        at = found.next;
         count += 1;
     }
     count
@@ -90,10 +44,8 @@ fn join(text: &[u8], at: usize, separator: u32, fields: usize, output: &mut [u8]
     let first = field_part(text, at, separator, 0);
     copy(first, output, 0);
     let mut to = first.len();
-    let mut column = 1;
-    while column < fields {
+    for column in 1..fields {
         to = put(text, at, separator, column, output, to);
-        column += 1;
     }
 }
 
@@ -102,17 +54,12 @@ pub fn copy_fields(text: &[u8], at: usize, separator: u32, output: &mut [u8])
     ensures { output.new ≡ spec.copied_fields separator text.now at output.old }
 {
     match row(text, at, separator) {
-        RowAnswer::Whole {
-            end: _,
-            next: _,
-            fields,
-        } => join(text, at, separator, fields, output),
-        RowAnswer::Malformed {
-            end: _,
-            next: _,
-            place: _,
-        } => {}
-        RowAnswer::Absent => {}
-        RowAnswer::Refused(_) => {}
+        Ok(Some(found)) => {
+            if let Ok(fields) = found.fields {
+                join(text, at, separator, fields, output);
+            }
+        }
+        Ok(None) => {}
+        Err(_) => {}
     }
 }

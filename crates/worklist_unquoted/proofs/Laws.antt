@@ -6,18 +6,15 @@ use Prim.Native.Nat.{ℕ, ◌+◌, ◌-◌, ◌≤◌, ◌<◌}
 use native.Mathlib.Nat.{zero-add}
 use native.Mathlib.Numerals.{add-one}
 use native.Mathlib.Omega.{arith}
-use borrow.Author.Tests.{eq-eqb, ne_eqb, lt-ltb, le-ltb}
+use borrow.Author.Tests.{eq-eqb, ne_eqb, le-ltb}
 use lib.Dec.{eqb}
 use lib.ListN.{length, drop, drop_of_length-le, length-append}
 use lib.Seq.{drop-cons, drop-drop}
 use Rattle.parts.specs.Part.{byte_at, part_at, overlay}
 use Rattle.parts.proofs.Laws.{by-test, overlay-none, overlay-after, overlay-length, overlay-inside}
-use Rattle.refusal.specs.Check.{silent, refused}
-use Rattle.refusal.specs.Outcome.{answered, refusal}
+use Rattle.refusal.specs.Check.{refused_if}
 use Rattle.refusal.specs.Output.{filled}
-use Rattle.refusal.specs.Number.{output_short}
-use Rattle.refusal.proofs.Laws.{said, quiet, after-said, after-quiet}
-use Rattle.worklist_unquoted.specs.Unquoted.{quote, closes, is_whole, undoubled, step_of, content_of, unquoted_check, unquoted_outcome, unquoted_output}
+use Rattle.worklist_unquoted.specs.Unquoted.{quote, closes, is_whole, undoubled, step_of, content_of, unquoted_output}
 
 pub behind : (s : List ℕ) (at : ℕ) → at < length s → drop at s ≡ byte_at s at ∷ drop (at + 1) s
 behind s at l = rw add-one (drop-cons s at 0 l)
@@ -132,18 +129,11 @@ pub plain-content : (field : List ℕ) → is_whole field ≡ false → field �
 unfolding content_of
 plain-content field w = rw w
 
-module _ (field out : List ℕ) (count : ℕ) (e : count ≡ length (content_of field)) where
-  pub told-short : length out < count → (refusal output_short 0 ≡ unquoted_outcome field (length out)) × (out ≡ unquoted_output field out)
-  unfolding filled
-  told-short h =
-      let k : unquoted_check field (length out) ≡ refused output_short 0 = said refl (lt-ltb (length out) (length (content_of field)) (omega arith)) in
-      (sym (after-said _ k), sym (ap (λ t. filled t (content_of field) out) k))
-
-  pub told-written : (after : List ℕ) → count ≤ length out → after ≡ overlay out 0 (content_of field)
-      → (answered (count ∷ []) ≡ unquoted_outcome field (length out)) × (after ≡ unquoted_output field out)
-  unfolding filled
-  told-written after h o =
-      let k : unquoted_check field (length out) ≡ silent = quiet output_short 0 refl (le-ltb (length out) (length (content_of field)) (omega arith)) in
-      let n : 0 + length (content_of field) ≡ length (content_of field) = zero-add (length (content_of field)) in
-      let all = overlay-inside out 0 (content_of field) (omega arith) ∙ ap (λ m. content_of field ++ drop m out) n in
-      (ap (λ m. answered (m ∷ [])) e ∙ sym (after-quiet _ k), o ∙ all ∙ sym (ap (λ t. filled t (content_of field) out) k))
+-- the output, where the content fits
+pub content_written : (field out after : List ℕ) → length (content_of field) ≤ length out → after ≡ overlay out 0 (content_of field)
+    → after ≡ unquoted_output field out
+unfolding filled refused_if
+content_written field out after h o =
+    let n : 0 + length (content_of field) ≡ length (content_of field) = zero-add (length (content_of field)) in
+    rw (le-ltb (length out) (length (content_of field)) h)
+    (o ∙ overlay-inside out 0 (content_of field) (omega arith) ∙ ap (λ m. content_of field ++ drop m out) n)

@@ -1,4 +1,4 @@
-#![tactic(auto)]
+#![tactic(auto, unfolding(refusal::specs::Check::first, refusal::specs::Check::refused_if, refusal::specs::Outcome::after))]
 
 // The bytes that a field of separated text stands for. Any bytes are answered for.
 ghost use Rattle.std.specs.Prelude.{◌≡◌, false, ◌+◌, ◌^◌, ◌<◌, length};
@@ -6,8 +6,8 @@ ghost use Rattle.refusal.specs.Outcome.{written_outcome};
 ghost use Rattle.parts.specs.Part.{overlay};
 ghost use Rattle.worklist_unquoted.specs.Unquoted as spec;
 
-use parts::{byte, copy, part, rest};
-use refusal::{OUTPUT_SHORT, Refusal, Written};
+use parts::{byte, copy, part};
+use refusal::{Reason, Refusal};
 
 const QUOTE: u8 = 34;
 
@@ -19,8 +19,7 @@ fn whole(field: &[u8]) -> bool
         return false;
     }
     let mut closed = false;
-    let mut at = 1;
-    while at < field.len() {
+    for at in 1..field.len() {
         if closed {
             if field[at] != QUOTE {
                 return false;
@@ -29,7 +28,6 @@ fn whole(field: &[u8]) -> bool
         } else {
             closed = field[at] == QUOTE;
         }
-        at += 1;
     }
     closed
 }
@@ -49,6 +47,7 @@ fn put_undoubled(bytes: &[u8], output: &mut [u8]) -> usize
 {
     let mut to = 0;
     let mut at = 0;
+    // A while loop: the step is that of the byte, 2 for a quote.
     while at < bytes.len() {
         let b = bytes[at];
         copy(&[b], output, to);
@@ -64,25 +63,23 @@ fn put(field: &[u8], output: &mut [u8]) -> usize
     ensures output_after { output.new ≡ overlay output.old 0 (spec.content_of field.now) }
 {
     if whole(field) {
-        return put_undoubled(part(field, 1, rest(field.len(), 2)), output);
+        return put_undoubled(part(field, 1, field.len().saturating_sub(2)), output);
     }
     copy(field, output, 0);
     field.len()
 }
 
 // Writes the bytes that a field stands for. They are measured by putting them where there is no room.
-pub fn unquoted(field: &[u8], output: &mut [u8]) -> Written
+#[tactic(auto, unfolding(refusal::specs::Check::refused_if, refusal::specs::Outcome::after, refusal::specs::Output::filled))]
+pub fn unquoted(field: &[u8], output: &mut [u8]) -> Result<usize, Refusal>
     ensures result_value { written_outcome result ≡ spec.unquoted_outcome field.now (length output.old) }
     ensures output_after { output.new ≡ spec.unquoted_output field.now output.old }
 {
     let mut no_room = [0u8; 0];
     let count = put(field, &mut no_room);
     if output.len() < count {
-        return Written::Refused(Refusal {
-            number: OUTPUT_SHORT,
-            place: 0,
-        });
+        return Err(Reason::OutputShort.at(0));
     }
     put(field, output);
-    Written::Bytes(count)
+    Ok(count)
 }

@@ -1,21 +1,24 @@
--- `file_number::digits`: the bytes passed are digits.
+-- `file_number::digits`: the place of the first byte that is no digit.
+use Rattle.std.proofs.Common.{rules, ◌≡◌, ℕ, ◌+◌, true, false, List, ◌∷◌, arith, refl}
 use mathlib.Core.Path.{sym, ◌∙◌}
-use native.Mathlib.Omega.{arith}
-use borrow.Author.Rules.{rules}
-use Rattle.file_number.proofs.Laws.{digits-none, digit-wrong, digit-right, digits-all}
+use borrow.Author.Tests.{tests}
+use Rattle.std.proofs.lemmas.Iterator.{YieldsList-from_slice, IsFirst-from_position, index_from_first}
+use Rattle.numbers.specs.Number.{within}
+use Rattle.file_number.specs.FileNumber.{is_digit, digits_of}
 use Rattle.file_number.proofs.digits.Goals as goal
 
-pub loop-at-init : goal.loop-at-init
-loop-at-init c = digits-none _
+none-first : (b : ℕ) (s : List ℕ) → is_digit b ≡ false → digits_of (b ∷ s) ≡ 0
+unfolding digits_of
+none-first b s e = rw e
 
-pub overflow_cast-b : goal.overflow_cast-b
-overflow_cast-b c = omega (arith, c.type_inv.text c.loop-at.at)
-
-pub returns-then-not-within : goal.returns-then-not-within
-returns-then-not-within c = digit-wrong c.loop-at.invariant (search rules) (sym c.within.ensures ∙ c.if-not-within.true)
-
-pub loop-at-preserved : goal.loop-at-preserved
-loop-at-preserved c = digit-right c.loop-at.invariant (search rules) (sym c.within.ensures ∙ c.if-not-within.false)
+one-more : (b : ℕ) (s : List ℕ) → is_digit b ≡ true → digits_of (b ∷ s) ≡ digits_of s + 1
+unfolding digits_of
+one-more b s e = rw e (omega arith)
 
 pub returns : goal.returns
-returns c = digits-all c.loop-at.invariant (search rules)
+unfolding within digits_of
+returns c =
+    let text = c.args.text.now in
+    let first = IsFirst-from_position _ _ c.position.result (λ b. is_digit b ≡ false) (λ b. is_digit b ≡ true) c.position.ensures.ran
+    (YieldsList-from_slice text cc) (λ x q k. search (rules, tests)) (λ x q k. search (rules, tests)) in
+    c.unwrap_or.ensures ∙ sym (index_from_first digits_of _ _ refl none-first one-more text c.position.result first)

@@ -7,4 +7,7 @@ use Rattle.listing.proofs.put_text.Goals as goal
 pub returns : goal.returns
 unfolding text_by
 returns c =
-    let whole = both (put_next (search rules) (told _ _ _ _ _ (c.put_header-to.ensures.value, c.put_header-to.ensures.output_after)) (told _ _ _ _ _ (c.put_pages.ensures.value, c.put_pages.ensures.output_after))) in record { value = whole.0; output_after = whole.1 }
+    let header = told _ _ _ _ _ (c.put_header-to.ensures.value, c.put_header-to.ensures.output_after) in
+    let pages = told _ _ _ _ _ (c.put_pages.ensures.value, c.put_pages.ensures.output_after) in
+    let whole = both (put_next (search rules) header pages) in
+    record { value = whole.0; output_after = whole.1 }

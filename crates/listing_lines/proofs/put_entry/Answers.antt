@@ -8,7 +8,9 @@ pub returns : goal.returns
 unfolding entry_line ascii
 returns c =
     let room = c.well_formed.1.1.1.1.0.0 in
-    let whole = both (put_next room
-    (put_next room (put_next room (told _ _ _ _ _ (c.put_hex-to.ensures.value, c.put_hex-to.ensures.output_after)) (told _ _ _ _ _ (c.put_number-to.ensures.value, c.put_number-to.ensures.output_after)))
-    (told _ _ _ _ _ (c.put_location-to.ensures.value, c.put_location-to.ensures.output_after)))
-    (told _ _ _ _ _ (c.put.ensures.value, c.put.ensures.output_after))) in record { value = whole.0; output_after = whole.1 }
+    let key = told _ _ _ _ _ (c.put_hex-to.ensures.value, c.put_hex-to.ensures.output_after) in
+    let size = told _ _ _ _ _ (c.put_number-to.ensures.value, c.put_number-to.ensures.output_after) in
+    let location = told _ _ _ _ _ (c.put_location-to.ensures.value, c.put_location-to.ensures.output_after) in
+    let end = told _ _ _ _ _ (c.put.ensures.value, c.put.ensures.output_after) in
+    let whole = both (put_next room (put_next room (put_next room key size) location) end) in
+    record { value = whole.0; output_after = whole.1 }

@@ -6,18 +6,17 @@ use Rattle.text.proofs.PutLaws.{told}
 use Rattle.listing_printed.proofs.Laws.{told-length, told-bytes, refused-put}
 use Rattle.listing_printed.proofs.print.Goals as goal
 
-pub returns-in-Bytes : goal.returns-in-Bytes
-returns-in-Bytes c =
+pub returns-in-Ok : goal.returns-in-Ok
+returns-in-Ok c =
     let a = c.args in
     let room : length a.output.now ≡ 655360 = search rules in
-    let l = c.listing in
-    let g = c.in-Bytes.is in record { value = told-length a.input.now l.result l.ensures.result_value _ g; output_after = told-bytes a.input.now l.result l.ensures.result_value _ a.output.now _ g room l.ensures.output_after }
+    let e = c.in-Ok.ensures.result_value in
+    record { value = told-length a.input.now _ e; output_after = told-bytes a.input.now _ e a.output.now _ room c.listing.ensures.output_after }
 
-pub returns-in-Refused : goal.returns-in-Refused
-returns-in-Refused c =
+pub returns-in-Err : goal.returns-in-Err
+returns-in-Err c =
     let a = c.args in
     let room : length a.output.now ≡ 655360 = search rules in
-    let l = c.listing in
-    let whole = refused-put a.input.now l.result l.ensures.result_value a.output.now _ _ _ c.in-Refused.is room l.ensures.output_after
-    (told _ _ _ _ _ (c.put_refusal.ensures.value, c.put_refusal.ensures.output_after)) in
+    let line = told _ _ _ _ _ (c.put_refusal.ensures.value, c.put_refusal.ensures.output_after) in
+    let whole = refused-put a.input.now _ _ c.in-Err.ensures.result_value a.output.now _ _ _ room c.listing.ensures.output_after line in
     record { value = whole.0; output_after = whole.1 }

@@ -1,11 +1,11 @@
 -- `text::put_decimal`: the digits so far, after those of the rest.
-use mathlib.Core.Path.{◌≡◌, refl, sym}
-use mathlib.Core.List.{◌++◌, append-nil}
-use Prim.Native.Nat.{◌+◌, ◌^◌, ◌<◌}
+use mathlib.Core.Path.{refl, sym}
+use mathlib.Core.List.{append-nil}
+use Prim.Native.Nat.{◌+◌}
 use native.Mathlib.Omega.{arith}
-use lib.ListN.{length, drop, length-set}
+use lib.ListN.{length-set}
 use borrow.Author.Rules.{rules}
-use Rattle.text.specs.Text.{decimal_digits, decimal}
+use Rattle.text.specs.Text.{decimal}
 use Rattle.text.proofs.TextLaws.{digit-turn, digit-last, two-left, tenth-fits}
 use Rattle.text.proofs.put_decimal.Goals as goal
 

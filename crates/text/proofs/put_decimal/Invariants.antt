@@ -1,12 +1,9 @@
 -- `text::put_decimal`: the digits so far, after those of the rest.
-use mathlib.Core.Path.{◌≡◌, refl, sym}
-use mathlib.Core.List.{◌++◌, append-nil}
+use mathlib.Core.Path.{◌≡◌}
+use mathlib.Core.List.{◌++◌}
 use Prim.Native.Nat.{◌+◌, ◌^◌, ◌<◌}
-use native.Mathlib.Omega.{arith}
-use lib.ListN.{length, drop, length-set}
-use borrow.Author.Rules.{rules}
+use lib.ListN.{length, drop}
 use Rattle.text.specs.Text.{decimal_digits, decimal}
-use Rattle.text.proofs.TextLaws.{digit-turn, digit-last, two-left, tenth-fits}
 use Rattle.text.proofs.put_decimal.Given as goal
 
 abbrev pub invariant-loop-rest : goal.invariant-loop-rest

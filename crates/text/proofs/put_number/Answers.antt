@@ -5,4 +5,7 @@ use Rattle.text.proofs.put_number.Goals as goal
 
 pub returns : goal.returns
 returns c =
-    let whole = both (put_next (search rules) (told _ _ _ _ _ (c.put-to.ensures.value, c.put-to.ensures.output_after)) (told _ _ _ _ _ (c.put_decimal.ensures.value, c.put_decimal.ensures.output_after))) in record { value = whole.0; output_after = whole.1 }
+    let word = told _ _ _ _ _ (c.put-to.ensures.value, c.put-to.ensures.output_after) in
+    let number = told _ _ _ _ _ (c.put_decimal.ensures.value, c.put_decimal.ensures.output_after) in
+    let whole = both (put_next (search rules) word number) in
+    record { value = whole.0; output_after = whole.1 }

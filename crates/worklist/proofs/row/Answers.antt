@@ -1,31 +1,25 @@
 -- `worklist::row`: the separator, whether a row begins, and what the walk tells.
-use mathlib.Core.Path.{sym, ◌∙◌}
+use mathlib.Core.Path.{sym}
 use native.Mathlib.Omega.{arith}
-use Rattle.worklist.specs.Rows.{outcome_of_row}
-use Rattle.worklist.proofs.Told.{no-separator-told, no-row-told, separator-byte, row_told, whole-told, malformed-told}
+use Rattle.std.proofs.lemmas.Result.{err_from_is_err_and}
+use Rattle.worklist.proofs.Told.{refused-told, absent-told, some-told, whole-told, malformed-told}
 use Rattle.worklist.proofs.row.Goals as goal
 
-pub returns-then-no_separator : goal.returns-then-no_separator
-unfolding outcome_of_row
-returns-then-no_separator c = no-separator-told _ _ c.no_separator.ensures _ _ _ c.if-no_separator.true
+pub returns-in_err-separator : goal.returns-in_err-separator
+returns-in_err-separator c =
+    let p = err_from_is_err_and c.from_residual.result c.from_residual.ensures.1 in
+    rw (p.1, p.2) (refused-told _ _ _ _ c.in_err-separator.ensures.check)
 
 pub returns-then-text-at : goal.returns-then-text-at
-unfolding outcome_of_row
-returns-then-text-at c = no-row-told _ _ c.no_separator.ensures _ _ _ c.if-no_separator.false c.if-text-at.true
+returns-then-text-at c = absent-told _ _ _ _ c.in_ok-separator.ensures.check (omega arith)
 
-pub overflow_cast-separator : goal.overflow_cast-separator
-overflow_cast-separator c =
-    omega (arith, separator-byte c.args.separator c.no_separator.result c.no_separator.ensures c.if-no_separator.false)
+pub returns-in-Ok : goal.returns-in-Ok
+returns-in-Ok c =
+    some-told _ _ _ _ c.in_ok-separator.ensures.check (omega arith)
+    (whole-told _ 0 _ (rw (c.in_ok-separator.ensures.value) at (sym c.in-Ok.ensures)) _ c.behind_line_end.ensures)
 
-pub returns-in-Whole : goal.returns-in-Whole
-unfolding outcome_of_row
-returns-in-Whole c =
-    row_told _ _ c.no_separator.ensures _ _ _ c.if-no_separator.false c.if-text-at.false
-    (whole-told _ 0 _ (sym c.walk.ensures ∙ c.in-Whole.is) _ c.behind_line_end.ensures)
-
-pub returns-in-Malformed : goal.returns-in-Malformed
-unfolding outcome_of_row
-returns-in-Malformed c =
-    row_told _ _ c.no_separator.ensures _ _ _ c.if-no_separator.false c.if-text-at.false
-    (malformed-told _ 0 _ (sym c.walk.ensures ∙ c.in-Malformed.is) _ _
-    c.stop_from-end.ensures c.behind_line_end-in-Malformed.ensures)
+pub returns-in-Err : goal.returns-in-Err
+returns-in-Err c =
+    some-told _ _ _ _ c.in_ok-separator.ensures.check (omega arith)
+    (malformed-told _ 0 _ (rw (c.in_ok-separator.ensures.value) at (sym c.in-Err.ensures)) _ _ c.stop_from-end.ensures
+    c.behind_line_end-in-Err.ensures)

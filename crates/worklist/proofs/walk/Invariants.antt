@@ -4,8 +4,8 @@ use lib.ListN.{length}
 use Rattle.worklist.proofs.Rows.{Walking}
 use Rattle.worklist.proofs.walk.Given as goal
 
-abbrev pub invariant-loop-place : goal.invariant-loop-place
-invariant-loop-place l = Walking l.separator l.text l.at l.column l.from l.fields l.found
+abbrev pub invariant-loop-field : goal.invariant-loop-field
+invariant-loop-field l = Walking l.separator l.text l.at l.column l.from l.fields l.found
 
-abbrev pub decreases-loop-place : goal.decreases-loop-place
-decreases-loop-place l = length l.text + 1 - l.from
+abbrev pub decreases-loop-field : goal.decreases-loop-field
+decreases-loop-field l = length l.text + 1 - l.from

@@ -1,49 +1,42 @@
 -- `worklist_joined::copy_rows`: row after row.
-use mathlib.Core.Path.{ap, ◌∙◌}
-use mathlib.Core.Bool.{not}
+use borrow.Author.Rules.{rules}
+use mathlib.Core.List.{[]}
+use Rattle.refusal.specs.Outcome.{absent}
+use mathlib.Core.Path.{◌≡◌, sym, ap, ◌∙◌}
 use native.Mathlib.Omega.{arith}
-use lib.ListN.{length}
 use Rattle.parts.specs.Part.{overlay}
-use Rattle.parts.proofs.Laws.{overlay-length}
-use Rattle.worklist_joined.proofs.RowLaws.{copying-none, copying-on, copied_all, nothing_copied, row_next}
+use Rattle.worklist.specs.Rows.{outcome_of_row, row_outcome}
+use Rattle.worklist_joined.proofs.RowLaws.{copying-none, copying-on, copied_all, row_next, row-told, next_told, none-told, refusal-told}
 use Rattle.worklist_joined.proofs.copy_rows.Goals as goal
 
-pub returns-then-not-separates : goal.returns-then-not-separates
-returns-then-not-separates c = let whole = nothing_copied _ _ _ (c.separates.ensures ∙ ap not c.if-not-separates.true) in record { value = whole.0; output_after = whole.1 }
+pub loop-found-init : goal.loop-found-init
+loop-found-init c = copying-none _ _ _
 
-pub loop-at-init : goal.loop-at-init
-loop-at-init c = copying-none _ _ _
+pub overflow_sub-found : goal.overflow_sub-found
+overflow_sub-found c =
+    let e = rw c.in-Ok-Some.field-0-is at c.in-Ok-Some.ensures in
+    omega (arith, next_told _ _ _ e, (row_next c.args.separator c.args.text.now c.loop-found.at (row-told _ _ _ e).inside).0)
 
-pub next_row-next-requires : goal.next_row-next-requires
-next_row-next-requires c =
-    (c.separates.ensures ∙ ap not c.if-not-separates.false, c.loop-at-test.true)
+pub loop-found-smaller : goal.loop-found-smaller
+loop-found-smaller c =
+    let e = rw c.in-Ok-Some.field-0-is at c.in-Ok-Some.ensures in
+    let inside = (row-told _ _ _ e).inside in
+    omega (arith, next_told _ _ _ e, (row_next c.args.separator c.args.text.now c.loop-found.at inside).0, inside)
 
-pub overflow_sub-next : goal.overflow_sub-next
-overflow_sub-next c =
-    let l = c.loop-at in
-    let a = c.args in
-    omega (arith, c.next_row-next.ensures, (row_next a.separator a.text.now l.at c.loop-at-test.true).0)
-
-pub overflow_add-count : goal.overflow_add-count
-overflow_add-count c =
-    let l = c.loop-at in
-    omega (arith, l.invariant.few, c.loop-at-test.true)
-
-pub loop-at-smaller : goal.loop-at-smaller
-loop-at-smaller c =
-    let l = c.loop-at in
-    let a = c.args in
-    omega (arith, c.next_row-next.ensures, (row_next a.separator a.text.now l.at c.loop-at-test.true).0, c.loop-at-test.true)
-
-pub loop-at-preserved : goal.loop-at-preserved
-loop-at-preserved c =
-    let l = c.loop-at in
-    copying-on l.invariant c.loop-at-test.true _ c.next_row-next.ensures _
+pub loop-found-preserved : goal.loop-found-preserved
+loop-found-preserved c =
+    let e = rw c.in-Ok-Some.field-0-is at c.in-Ok-Some.ensures in
+    let l = c.loop-found in
+    let r = row-told _ _ _ e in
+    copying-on l.invariant r.separator r.inside _ (next_told _ _ _ e) _
     (c.copy.ensures ∙ ap (overlay l.output l.at) c.part.ensures.result_value)
 
-pub shape_of-output : goal.shape_of-output
-shape_of-output c = ap length c.loop-at.invariant.copied ∙ overlay-length _ _ _
+pub returns-in_default : goal.returns-in_default
+returns-in_default c =
+    let none : absent [] ≡ row_outcome c.args.text.now c.loop-found.at c.args.separator = search rules in
+    let all = copied_all c.loop-found.invariant (none-told _ _ _ none) in record { value = all.0; output_after = all.1 }
 
-pub returns : goal.returns
-returns c =
-    let whole = copied_all c.loop-at.invariant (c.separates.ensures ∙ ap not c.if-not-separates.false) c.loop-at-test.false in record { value = whole.0; output_after = whole.1 }
+pub returns-in_default-2 : goal.returns-in_default-2
+returns-in_default-2 c =
+    let all = copied_all c.loop-found.invariant (refusal-told _ _ _ (sym (ap outcome_of_row c.in_default.is) ∙ c.row.ensures)) in
+    record { value = all.0; output_after = all.1 }

@@ -4,8 +4,8 @@ use lib.ListN.{length}
 use Rattle.worklist_joined.proofs.RowLaws.{Copying}
 use Rattle.worklist_joined.proofs.copy_rows.Given as goal
 
-abbrev pub invariant-loop-at : goal.invariant-loop-at
-invariant-loop-at l = Copying l.separator l.text l.initial.output l.count l.at l.output
+abbrev pub invariant-loop-found : goal.invariant-loop-found
+invariant-loop-found l = Copying l.separator l.text l.initial.output l.count l.at l.output
 
-abbrev pub decreases-loop-at : goal.decreases-loop-at
-decreases-loop-at l = length l.text - l.at
+abbrev pub decreases-loop-found : goal.decreases-loop-found
+decreases-loop-found l = length l.text - l.at

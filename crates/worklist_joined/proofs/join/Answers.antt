@@ -12,18 +12,12 @@ loop-column-init c =
     let k = c.before in
     let f = k.before.before.before.before in
     let s = f.before.before.before in
-    first-laid s.requires _ f.field_part-first.ensures.result_value _ _ k.copy.ensures
+    first-laid s.requires _ f.field_part-first.ensures.value _ _ k.copy.ensures
 
 pub put-to-requires : goal.put-to-requires
 put-to-requires c =
     let l = c.loop-column in
     (separator-byte c.args.separator _ refl c.requires.separator, omega (arith, put-fits c.requires l.invariant c.loop-column-test.true))
-
-pub overflow_add-column : goal.overflow_add-column
-overflow_add-column c = omega (arith, c.loop-column-test.true)
-
-pub loop-column-smaller : goal.loop-column-smaller
-loop-column-smaller c = omega (arith, c.loop-column-test.true)
 
 pub loop-column-preserved : goal.loop-column-preserved
 loop-column-preserved c =
@@ -35,5 +29,5 @@ shape_of-output c =
 
 pub returns : goal.returns
 returns c =
-    all_laid c.requires _ c.field_part-first.ensures.result_value _ _ c.copy.ensures
+    all_laid c.requires _ c.field_part-first.ensures.value _ _ c.copy.ensures
     c.loop-column.invariant c.loop-column-test.false

@@ -1,5 +1,4 @@
 -- `worklist_joined::join`: the first field, and each other behind a separator.
-use Prim.Native.Nat.{◌-◌}
 use Rattle.worklist.specs.Rows.{row_at}
 use Rattle.worklist_joined.specs.Joined.{fields_of}
 use Rattle.worklist_joined.proofs.FieldLaws.{Joining}
@@ -7,6 +6,3 @@ use Rattle.worklist_joined.proofs.join.Given as goal
 
 abbrev pub invariant-loop-column : goal.invariant-loop-column
 invariant-loop-column l = Joining l.separator l.text (fields_of (row_at l.separator l.text l.at)) l.initial.output l.to l.column l.output
-
-abbrev pub decreases-loop-column : goal.decreases-loop-column
-decreases-loop-column l = l.fields - l.column

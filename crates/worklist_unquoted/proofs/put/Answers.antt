@@ -10,7 +10,7 @@ use Rattle.worklist_unquoted.proofs.put.Goals as goal
 pub put_undoubled-requires : goal.put_undoubled-requires
 put_undoubled-requires c =
     let a = c.args in
-    let rest = c.rest in
+    let rest = c.saturating_sub in
     omega (arith, ap length c.part.ensures.result_value, part_at-length a.field.now 1 rest.result, rest.ensures)
 
 pub returns-then-whole : goal.returns-then-whole
@@ -18,7 +18,7 @@ returns-then-whole c =
     let p = c.put_undoubled in
     let a = c.args in
     let quoted = sym c.whole.ensures ∙ c.if-whole.true in
-    let e = whole-content a.field.now _ _ quoted c.part.ensures.result_value c.rest.ensures in
+    let e = whole-content a.field.now _ _ quoted c.part.ensures.result_value c.saturating_sub.ensures in
     record { value = p.ensures.value ∙ ap length e; output_after = p.ensures.output_after ∙ ap (overlay a.output.now 0) e }
 
 pub returns : goal.returns
