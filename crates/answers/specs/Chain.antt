@@ -6,13 +6,13 @@ use Rattle.crossing.specs.Crossing.{CrossesBeside}
 
 -- The index lookup's values; the link of an absent answer in the third word and the comparisons in the fifth; or a refusal (rule
 -- S5).
-unfoldable pub chain_outcome : Told → Outcome
+abbrev pub chain_outcome : Told → Outcome
 chain_outcome (found values) = answered values
 chain_outcome (absent_at link compared) = absent (0 ∷ 0 ∷ link ∷ 0 ∷ compared ∷ [])
 chain_outcome (refused_at link number place) = refusal number place
 
 -- The link that stands beside a refusal (rule S3).
-unfoldable pub refusing_link : Told → ℕ
+abbrev pub refusing_link : Told → ℕ
 refusing_link (found values) = 0
 refusing_link (absent_at link compared) = 0
 refusing_link (refused_at link number place) = link

@@ -4,25 +4,27 @@ ghost use Rattle.parts.specs.Part.{part_at};
 ghost use Rattle.refusal.specs.Check.{check_of};
 ghost use Rattle.refusal.specs.Outcome.{answered, after};
 ghost use Rattle.refusal.specs.Output.{filled};
-ghost use Rattle.crossing.specs.Crossing.{Crosses};
+ghost use Rattle.crossing.specs.Crossing.{Crosses, told_or};
 
 use crossing::refused;
-use key_text::KeyText;
 use parts::{copy, part};
-use refusal::Verdict;
+use refusal::Refusal;
 
 // Lays out what reading a key of `length` bytes answers, and puts these bytes.
-pub fn tell_key(read: KeyText, length: u8, key: &mut [u8; 16], answer: &mut [u64; 8]) -> u32
-    ensures crosses { Crosses (after (check_of read.verdict) (answered (length ∷ []))) result answer.new }
-    ensures key_after { key.new ≡ filled (check_of read.verdict) (part_at read.bytes 0 length) key.old }
+pub fn tell_key(
+    read: Result<[u8; 16], Refusal>,
+    length: u8,
+    key: &mut [u8; 16],
+    answer: &mut [u64; 8],
+) -> u32
+    ensures crosses { Crosses (after (check_of read) (answered (length ∷ []))) result answer.new }
+    ensures key_after { key.new ≡ filled (check_of read) (part_at (told_or read []) 0 length) key.old }
 {
-    let verdict = read.verdict;
-    let bytes = read.bytes;
-    match verdict {
-        Verdict::Refused(r) => refused(r, answer),
-        Verdict::Passed => {
-            copy(part(&bytes, 0, length as usize), key, 0);
-            *answer = [length as u64, 0, 0, 0, 0, 0, 0, 0];
+    match read {
+        Err(r) => refused(r, answer),
+        Ok(bytes) => {
+            copy(part(&bytes, 0, usize::from(length)), key, 0);
+            *answer = [u64::from(length), 0, 0, 0, 0, 0, 0, 0];
             0
         }
     }

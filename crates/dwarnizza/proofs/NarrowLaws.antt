@@ -104,9 +104,9 @@ length-as F wrong h k e =
 
 module _ {n : ℕ} (k : ℕ) (e : n ≡ min k 255) (text : List ℕ) where
   pub text-narrowed : text_outcome text n ≡ text_outcome text k
-  unfolding text_check first refused_if after
+  unfolding first refused_if after
   text-narrowed = length-as (text_outcome text) (refusal settings 0) (λ m r. rw r) k e
 
   pub key-narrowed : (key : List ℕ) → filled (text_check text n) (text_bytes text) key ≡ filled (text_check text k) (text_bytes text) key
-  unfolding text_check first refused_if filled
+  unfolding first refused_if filled
   key-narrowed key = length-as (λ m. filled (text_check text m) (text_bytes text) key) key (λ m r. rw r) k e

@@ -4,7 +4,8 @@ ghost use Rattle.refusal.specs.Output.{filled};
 ghost use Rattle.envelope.specs.Envelope as envelope;
 ghost use Rattle.crossing.specs.Crossing.{Crosses, verdict_outcome, lent_after};
 
-use crossing::{tell_bytes, tell_sixteen};
+use answers::told::tell;
+use crossing::tell_sixteen;
 
 // The content of an envelope: the bytes written.
 #[unsafe(no_mangle)]
@@ -19,7 +20,7 @@ pub extern "C" fn dwarnizza_envelope_open(
         ≡ filled (envelope.open_check file.now key.now (length output.old))
         (envelope.content file.now) output.old }
 {
-    tell_bytes(envelope::open(file, key, output), answer)
+    tell(envelope::open(file, key, output), answer)
 }
 
 // The length of an envelope's content.
@@ -27,7 +28,7 @@ pub extern "C" fn dwarnizza_envelope_open(
 pub extern "C" fn dwarnizza_envelope_length(file: &[u8], key: &[u8], answer: &mut [u64; 8]) -> u32
     ensures { Crosses (envelope.length_outcome file.now key.now) result answer.new }
 {
-    tell_bytes(envelope::content_length(file, key), answer)
+    tell(envelope::content_length(file, key), answer)
 }
 
 // The key of an envelope. A refusal leaves the key's bytes.
@@ -40,8 +41,5 @@ pub extern "C" fn dwarnizza_envelope_key(
     ensures crosses { Crosses (verdict_outcome (envelope.key_of_check file.now)) result answer.new }
     ensures key_after { key.new ≡ lent_after (envelope.key_of_check file.now) (envelope.envelope_key_of file.now) key.old }
 {
-    let told = envelope::envelope_key(file);
-    let verdict = told.verdict;
-    let bytes = told.bytes;
-    tell_sixteen(verdict, bytes, key, answer)
+    tell_sixteen(envelope::envelope_key(file), key, answer)
 }

@@ -6,15 +6,15 @@ ghost use Rattle.crossing.specs.Crossing.{Crosses, verdict_outcome};
 ghost use Rattle.answers.specs.Lent.{words_to};
 ghost use Rattle.dwarnizza.specs.Md5State.{state_of, words_after};
 
-use answers::hashes::tell_state;
-use crossing::tell_sixteen;
+use answers::hashes::put_state;
+use answers::told::tell;
+use crossing::{refused, tell_sixteen};
 use md5_block::Words;
 use md5_digest::Md5;
 
 fn state(words: &[u32; 4], pending: &[u8; 64], count: u64) -> Md5
     ensures { result ≡ state_of words.now pending.now count }
 {
-    let bytes = *pending;
     Md5 {
         words: Words {
             a: words[0],
@@ -22,7 +22,7 @@ fn state(words: &[u32; 4], pending: &[u8; 64], count: u64) -> Md5
             c: words[2],
             d: words[3],
         },
-        pending: bytes,
+        pending: *pending,
         count,
     }
 }
@@ -33,10 +33,7 @@ pub extern "C" fn dwarnizza_md5(message: &[u8], digest: &mut [u8; 16], answer: &
     ensures crosses { Crosses (verdict_outcome (md5.limited (length message.now))) result answer.new }
     ensures digest_after { digest.new ≡ cond (md5.is_too_long (length message.now)) digest.old (md5.md5 message.now) }
 {
-    let hashed = md5_digest::digest(message);
-    let verdict = hashed.verdict;
-    let bytes = hashed.bytes;
-    tell_sixteen(verdict, bytes, digest, answer)
+    tell_sixteen(md5_digest::digest(message), digest, answer)
 }
 
 // The state before the first part.
@@ -50,14 +47,8 @@ pub extern "C" fn dwarnizza_md5_start(
     ensures crosses { Crosses (answered []) result answer.new }
     ensures words_after { (words.new ≡ words_to md5.initial) × (pending.new ≡ replicate 64 0) × (count.new ≡ 0) }
 {
-    let fresh = Md5::new();
-    let w = fresh.words;
-    let bytes = fresh.pending;
-    *words = [w.a, w.b, w.c, w.d];
-    *pending = bytes;
-    *count = fresh.count;
-    *answer = [0u64; 8];
-    0
+    put_state(&Md5::new(), words, pending, count);
+    tell(Ok(()), answer)
 }
 
 // Takes the next part of a message. A refusal leaves the state.
@@ -75,9 +66,12 @@ pub extern "C" fn dwarnizza_md5_update(
         ≡ (md5.updated (state_of words.old pending.old count.old) part.now).pending }
     ensures count_after { count.new ≡ (md5.updated (state_of words.old pending.old count.old) part.now).count }
 {
-    let n = *count;
-    let updated = state(words, pending, n).update(part);
-    tell_state(updated, words, pending, count, answer)
+    let (after, taken) = state(words, pending, *count).update(part);
+    if let Err(r) = taken {
+        return refused(r, answer);
+    }
+    put_state(&after, words, pending, count);
+    tell(Ok(()), answer)
 }
 
 // The digest that a state ends in.
@@ -93,6 +87,5 @@ pub extern "C" fn dwarnizza_md5_finish(
     ensures digest_after { digest.new ≡ md5.finished (state_of words.now pending.now count) }
 {
     *digest = state(words, pending, count).finish();
-    *answer = [0u64; 8];
-    0
+    tell(Ok(()), answer)
 }

@@ -16,15 +16,15 @@ ghost use Rattle.crossing.specs.Crossing.{Crosses, test_outcome};
 ghost use Rattle.dwarnizza.specs.Indexes.{settings_from, footer_outcome};
 
 use crate::narrow::narrow_settings;
-use answers::indexes::{tell_bound, tell_entry, tell_footer, tell_layout, tell_lookup, tell_page};
-use crossing::tell_bytes;
+use answers::indexes::{tell_footer, tell_lookup};
+use answers::told::{tell, tell_found};
 
 // The full check: version, offset width, key length, entries and pages.
 #[unsafe(no_mangle)]
 pub extern "C" fn dwarnizza_index_check(index: &[u8], answer: &mut [u64; 8]) -> u32
     ensures { Crosses (check_outcome index.now) result answer.new }
 {
-    tell_layout(index::check(index), answer)
+    tell(index::check(index), answer)
 }
 
 // What the footer says, by the opening checks alone: version, offset width, key length, entries and pages.
@@ -32,7 +32,7 @@ pub extern "C" fn dwarnizza_index_check(index: &[u8], answer: &mut [u64; 8]) -> 
 pub extern "C" fn dwarnizza_index_settings(index: &[u8], answer: &mut [u64; 8]) -> u32
     ensures { Crosses (open_outcome index.now) result answer.new }
 {
-    tell_layout(index_open::open(index), answer)
+    tell(index_open::open(index), answer)
 }
 
 // The entry in a slot of a page: place of the key, its length, size, archive number, offset, page and slot.
@@ -45,7 +45,7 @@ pub extern "C" fn dwarnizza_index_entry(
 ) -> u32
     ensures { Crosses (entry_outcome index.now page slot) result answer.new }
 {
-    tell_entry(index_entry::find(index, page, slot), answer)
+    tell_found(index_entry::find(index, page, slot), answer)
 }
 
 // What the footer says, by the opening checks but that of the length: version, offset width, key length, entries, pages, the length
@@ -71,7 +71,7 @@ pub extern "C" fn dwarnizza_index_loose(index: &[u8], answer: &mut [u64; 8]) -> 
 pub extern "C" fn dwarnizza_index_page(index: &[u8], page: u64, answer: &mut [u64; 8]) -> u32
     ensures { Crosses (page_outcome index.now page) result answer.new }
 {
-    tell_page(index_page::find(index, index_page::page_of(page)), answer)
+    tell_found(index_page::find(index, index_page::page_of(page)), answer)
 }
 
 // The list of a checked index: the bytes written.
@@ -85,7 +85,7 @@ pub extern "C" fn dwarnizza_index_list(
     ensures output_after { output.new
         ≡ filled (list_check index.now (length output.old)) (list_of index.now) output.old }
 {
-    tell_bytes(index_list::list(index, output), answer)
+    tell(index_list::list(index, output), answer)
 }
 
 // The lookup of a key: page, slot, size, location and comparisons; of an absent key, the comparisons.
@@ -101,7 +101,7 @@ pub extern "C" fn dwarnizza_index_lookup(index: &[u8], key: &[u8], answer: &mut 
 pub extern "C" fn dwarnizza_index_bound(index: &[u8], answer: &mut [u64; 8]) -> u32
     ensures { Crosses (bound_of index.now) result answer.new }
 {
-    tell_bound(index_lookup::bound(index), answer)
+    tell(index_lookup::bound(index), answer)
 }
 
 // Writes the index of a list: the bytes written.
@@ -121,7 +121,7 @@ pub extern "C" fn dwarnizza_index_write(
         (file_of list.now (layout_for (settings_from version offset_width key_length) list.now)) output.old }
 {
     let settings = narrow_settings(version, offset_width, key_length);
-    tell_bytes(index_writer::write(settings, list, output), answer)
+    tell(index_writer::write(settings, list, output), answer)
 }
 
 // The length of the file that a list gives.
@@ -136,7 +136,7 @@ pub extern "C" fn dwarnizza_index_written_length(
     ensures { Crosses (length_outcome (settings_from version offset_width key_length) list.now) result answer.new }
 {
     let settings = narrow_settings(version, offset_width, key_length);
-    tell_bytes(index_writer::written_length(settings, list), answer)
+    tell(index_writer::written_length(settings, list), answer)
 }
 
 // Puts one entry of a list: the bytes written.
@@ -160,7 +160,7 @@ pub extern "C" fn dwarnizza_list_put(
         (entry_bytes offset_width key.now size (location_of archive offset)) output.old }
 {
     let settings = narrow_settings(version, offset_width, key_length);
-    tell_bytes(
+    tell(
         index_list_entry::put_entry(settings, key, size, archive, offset, output),
         answer,
     )
@@ -176,5 +176,5 @@ pub extern "C" fn dwarnizza_index_listing(
     ensures crosses { Crosses (listing_outcome input.now) result answer.new }
     ensures output_after { output.new ≡ fitted (listing_check input.now) (text_of input.now) output.old }
 {
-    tell_bytes(listing::listing(input, output), answer)
+    tell(listing::listing(input, output), answer)
 }

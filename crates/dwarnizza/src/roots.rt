@@ -8,15 +8,15 @@ ghost use Rattle.root_find_path.specs.Path as paths;
 ghost use Rattle.root_find_path.specs.Path.{path_lookup};
 ghost use Rattle.crossing.specs.Crossing.{Crosses, verdict_outcome};
 
-use answers::roots::{tell_found, tell_hash, tell_record};
-use crossing::{tell_bytes, tell_verdict};
+use answers::roots::tell_keyed;
+use answers::told::tell;
 
 // The check of a whole root file.
 #[unsafe(no_mangle)]
 pub extern "C" fn dwarnizza_root_check(file: &[u8], answer: &mut [u64; 8]) -> u32
     ensures { Crosses (verdict_outcome (root_check file.now)) result answer.new }
 {
-    tell_verdict(root::check(file), answer)
+    tell(root::check(file), answer)
 }
 
 // The content key of a file number: its byte offset, and its bytes. Where none is found the key's bytes stay.
@@ -32,7 +32,7 @@ pub extern "C" fn dwarnizza_root_find(
     ensures crosses { Crosses (lookup_of file.now id locale unwanted) result answer.new }
     ensures key_after { key.new ≡ key_or file.now key.old (lookup_of file.now id locale unwanted) }
 {
-    tell_found(root::lookup(file, id, locale, unwanted), key, answer)
+    tell_keyed(root::lookup(file, id, locale, unwanted), key, answer)
 }
 
 // The content keys of many file numbers, which rise, four bytes each: the bytes written. A refusal leaves the output's bytes.
@@ -48,7 +48,7 @@ pub extern "C" fn dwarnizza_root_find_many(
     ensures crosses { Crosses (many_outcome file.now ids.now (length output.old)) result answer.new }
     ensures output_after { output.new ≡ many_output file.now ids.now locale unwanted output.old }
 {
-    tell_bytes(
+    tell(
         root_find_many::find_many(file, ids, locale, unwanted, output),
         answer,
     )
@@ -68,7 +68,7 @@ pub extern "C" fn dwarnizza_root_find_path(
     ensures key_after { key.new
         ≡ paths.key_or file.now key.old (path_lookup file.now path.now locale unwanted) }
 {
-    tell_record(
+    tell_keyed(
         root_find_path::find_path(file, path, locale, unwanted),
         key,
         answer,
@@ -80,5 +80,5 @@ pub extern "C" fn dwarnizza_root_find_path(
 pub extern "C" fn dwarnizza_name_hash(path: &[u8], answer: &mut [u64; 8]) -> u32
     ensures { Crosses (hash_outcome path.now) result answer.new }
 {
-    tell_hash(name_hash::hash(path), answer)
+    tell(name_hash::hash(path), answer)
 }

@@ -4,8 +4,7 @@ ghost use Rattle.worklist.specs.Rows.{row_outcome, field_outcome};
 ghost use Rattle.worklist_unquoted.specs.Unquoted.{unquoted_output, unquoted_outcome};
 ghost use Rattle.crossing.specs.Crossing.{Crosses};
 
-use answers::worklists::{tell_field, tell_row};
-use crossing::tell_bytes;
+use answers::told::{tell, tell_found};
 
 // The row that begins at a byte of a text: where it ends, where the next begins, the number of its fields; of a malformed one 1 and
 // the place in the last two words.
@@ -18,7 +17,7 @@ pub extern "C" fn dwarnizza_worklist_row(
 ) -> u32
     ensures { Crosses (row_outcome text.now at separator) result answer.new }
 {
-    tell_row(worklist::row(text, at, separator), answer)
+    tell_found(worklist::row(text, at, separator), answer)
 }
 
 // A field of a row by its column: its place and length with its quotes, and 1 where it is quoted.
@@ -32,7 +31,7 @@ pub extern "C" fn dwarnizza_worklist_field(
 ) -> u32
     ensures { Crosses (field_outcome text.now at separator column) result answer.new }
 {
-    tell_field(worklist::field(text, at, separator, column), answer)
+    tell_found(worklist::field(text, at, separator, column), answer)
 }
 
 // The bytes that a field stands for, in the output: how many they are. A refusal leaves the output's bytes.
@@ -45,5 +44,5 @@ pub extern "C" fn dwarnizza_worklist_unquoted(
     ensures crosses { Crosses (unquoted_outcome field.now (length output.old)) result answer.new }
     ensures output_after { output.new ≡ unquoted_output field.now output.old }
 {
-    tell_bytes(worklist_unquoted::unquoted(field, output), answer)
+    tell(worklist_unquoted::unquoted(field, output), answer)
 }

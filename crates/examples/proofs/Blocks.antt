@@ -15,8 +15,7 @@ use Rattle.examples.specs.Blocks.{layout_rows, header_rows, built_rows, block_ro
 use Rattle.examples.proofs.Laws.{each, ◌then◌}
 
 pub block-examples : BlockExamples
-unfolding hash_offset key_at block_size block_of header_check layout_of long_numbers has_magic layout_for layout_values header_size ascii after refused_if first
-    little_at within little_bytes same_bytes parts_from
+unfolding hash_offset key_at block_size block_of layout_of layout_values ascii after refused_if first little_at within little_bytes same_bytes parts_from
 block-examples =
     each layout_rows (refl, (refl, (refl, (refl, tt))))
     then each header_rows (refl, (refl, (refl, (refl, (refl, (refl, (refl, (refl, (refl, tt)))))))))

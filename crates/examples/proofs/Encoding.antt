@@ -14,7 +14,7 @@ use Rattle.examples.specs.Examples.{EachHolds, m12}
 use Rattle.examples.proofs.Laws.{each}
 
 pub spec-rows : EachHolds m12
-unfolding spec_lookup spec_told spec_string part_after opening header_right table_right magic_right end_of index_at table_size index_size
+unfolding spec_string part_after header_right table_right magic_right end_of index_at table_size index_size
     page_size row_size table_of header_of table_from run_of in_front strings count_of start_of before_zero length_at ascii after refused_if
     first big_at within same_bytes
 spec-rows = each m12 (refl, (refl, (refl, tt)))

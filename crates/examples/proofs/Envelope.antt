@@ -15,7 +15,7 @@ use Rattle.examples.specs.Examples.{EachHolds, m11}
 use Rattle.examples.proofs.Laws.{each}
 
 pub envelope-rows : EachHolds m11
-unfolding open_check content_check chunks_check chunk_check decoded_check mode_check hash_check envelope_key_check keyed content_by opening
+unfolding chunks_check keyed content_by
     sizes_check empty_check header_right magic_right chunk_at encoded_size header_length chunk_count header_of ascii filled after refused_if
     first first_from addends shifts mixed word_number turned step steps word words_of sum block blocks little_bytes padding initial
     digest_of md5 big_at same_bytes parts_from

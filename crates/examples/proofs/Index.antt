@@ -18,11 +18,10 @@ use Rattle.examples.specs.Examples.{EachHolds, m1, m2, m3, m4}
 use Rattle.examples.proofs.Laws.{each}
 
 pub index-rows : EachHolds m1 × EachHolds m2 × EachHolds m3 × EachHolds m4
-unfolding write_check input_check settings_right list_order_check key_in_list layout_for list_count list_entry_size lookup_of key_check end_outcome
-    ended ended_from ended_on ended_at page_halved slot_halved stored_in halve halving halved_once opening footer_check fields_check_with
-    field_check footer_hash_check size_at location_at layout_from pages_for entry_size full placed_on on_page entry_at last_key_offset index_length_of
-    compared decided addends shifts mixed word_number turned step steps word words_of sum block blocks little_bytes padding initial
-    digest_of md5 after refused_if first first_from big_at little_at within same_bytes parts_from
+unfolding write_check input_check settings_right list_order_check key_in_list layout_for list_count list_entry_size lookup_of key_check end_outcome ended
+    ended_from ended_on ended_at page_halved slot_halved stored_in halve halving halved_once size_at location_at layout_from pages_for entry_size full
+    placed_on on_page entry_at last_key_offset index_length_of compared decided addends shifts mixed word_number turned step steps word words_of sum block
+    blocks little_bytes padding initial digest_of md5 after refused_if first first_from big_at little_at within same_bytes parts_from
 index-rows = (
   each m1 (refl, (refl, (refl, (refl, (refl, tt))))),
   each m2 (refl, tt),

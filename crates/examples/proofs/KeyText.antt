@@ -10,5 +10,5 @@ use Rattle.examples.specs.Examples.{EachHolds, m9}
 use Rattle.examples.proofs.Laws.{each}
 
 pub text-rows : EachHolds m9
-unfolding text_check digits_check digit_check digit_of within text_bytes carried filled refused_if first first_from ascii
+unfolding within text_bytes filled refused_if first first_from ascii
 text-rows = each m9 (refl, (refl, (refl, (refl, tt))))

@@ -4,7 +4,7 @@ use mathlib.Core.List.{List, [], ◌∷◌}
 use Prim.Native.Nat.{ℕ, zero, suc}
 use native.Mathlib.Nat.{zero-mul}
 use native.Mathlib.Omega.{arith}
-use Rattle.key.specs.declared.Order.{Order}
+use Rattle.std.specs.declared.cmp.Ordering.{Ordering}
 use Rattle.refusal.specs.Check.{silent}
 use Rattle.refusal.specs.Outcome.{absent}
 use Rattle.halving.specs.Halving.{halve, halving}
@@ -17,7 +17,7 @@ use Rattle.index_lookup.proofs.Laws.{opened-lookup}
 use Rattle.examples.specs.Examples.{NoEntries}
 
 -- a lookup over no page
-no-page : (s : List ℕ) (l : Layout) (pages : ℕ) (entries : ℕ → ℕ) (last : ℕ → Order) (key : ℕ → ℕ → Order) → pages ≡ 0
+no-page : (s : List ℕ) (l : Layout) (pages : ℕ) (entries : ℕ → ℕ) (last : ℕ → Ordering) (key : ℕ → ℕ → Ordering) → pages ≡ 0
     → end_outcome s l (ended (record { pages = pages; entries = entries; last = last; key = key })) ≡ absent (0 ∷ 0 ∷ 0 ∷ 0 ∷ 0 ∷ [])
 unfolding end_outcome ended ended_from page_halved halve halving
 no-page s l zero entries last key e = refl

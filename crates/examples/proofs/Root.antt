@@ -17,9 +17,9 @@ use Rattle.examples.specs.Examples.{EachHolds, m5, m6, m7, m8, m10}
 use Rattle.examples.proofs.Laws.{each}
 
 pub root-rows : EachHolds m5 × EachHolds m6 × EachHolds m7 × EachHolds m8 × EachHolds m10
-unfolding lookup_of key_told first_of wanted is_id records_in records_from record_at root_check blocks_check blocks_from block_check cut_check counts key_at
-    deltas_of block_size block_of ids_check id_check in_range id_at delta_at signed header_check layout_of long_numbers has_magic layout_values layout_for
-    header_size ascii after refused_if first first_from little_bytes little_at within same_bytes parts_from
+unfolding lookup_of key_told first_of wanted is_id records_in records_from record_at root_check blocks_check blocks_from block_check counts key_at deltas_of
+    block_size block_of ids_check id_check in_range id_at delta_at signed layout_of layout_values ascii after refused_if first first_from little_bytes
+    little_at within same_bytes parts_from
 root-rows = (
   each m5 (refl, (refl, (refl, (refl, tt)))),
   each m6 (refl, (refl, tt)),

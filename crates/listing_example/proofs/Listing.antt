@@ -19,22 +19,20 @@ use Rattle.listing_printed.specs.Printed.{has_place, place_text, refusal_line, p
 
 -- both indexes pass the full check, their hashes with it
 passes : (listing_check one ≡ silent) × (listing_check none ≡ silent)
-unfolding listing_check full_check opening footer_check fields_check_with field_check footer_hash_check pages_check page_check page_hash_check
-    padding_check key_before not_above order_check last_key_check refused_if first first_from same_bytes all_zero compared decided
-    layout_from pages_for entry_size full placed_on on_page entry_at last_key_offset page_hash_at index_length_of little_at big_at within addends
-    shifts mixed word_number turned step steps word words_of sum block blocks little_bytes padding initial digest_of md5
+unfolding full_check pages_check page_check page_hash_check padding_check key_before not_above order_check last_key_check refused_if first first_from
+    same_bytes all_zero compared decided layout_from pages_for entry_size full placed_on on_page entry_at last_key_offset page_hash_at index_length_of
+    little_at big_at within addends shifts mixed word_number turned step steps word words_of sum block blocks little_bytes padding initial digest_of md5
 passes = (refl, refl)
 
 -- their texts
 texts : (text_of one ≡ ascii "index key=1 offset=4 entries=1 pages=1\n05 7 - 9\n")
     × (text_of none ≡ ascii "index key=1 offset=4 entries=0 pages=0\n")
-unfolding text_by header pages_text page_text line entry_line location_text ascii decimal_digits hex parts_from layout_from pages_for
-    entry_size full placed_on on_page entry_at size_at location_at little_at big_at
+unfolding text_by header pages_text page_text line entry_line location_text ascii decimal_digits hex parts_from layout_from pages_for entry_size full
+    placed_on on_page entry_at size_at location_at little_at big_at
 texts = (refl, refl)
 
 pub listing : Listing
-unfolding printed listing_check full_check opening footer_check fields_check_with field_check refused_if first printed_after refusal_line
-    place_text has_place within ascii decimal_digits
+unfolding printed full_check refused_if first printed_after refusal_line place_text has_place within ascii decimal_digits
 listing = record {
   one_entry = ap (λ k. printed_after k one) passes.0 ∙ texts.0;
   no_entries = ap (λ k. printed_after k none) passes.1 ∙ texts.1;

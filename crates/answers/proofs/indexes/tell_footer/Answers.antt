@@ -1,4 +1,4 @@
--- `answers::indexes::tell_footer`: each case, laid out, with the lengths.
+-- `answers::indexes::tell_footer`: the layout, and the lengths.
 use mathlib.Core.Path.{refl, sym, ap}
 use Rattle.index_open.specs.Open.{layout_values}
 use Rattle.crossing.specs.Crossing.{result, answer_words}
@@ -6,12 +6,7 @@ use Rattle.crossing.proofs.Laws.{crosses-as}
 use Rattle.answers.specs.Lent.{footer_told}
 use Rattle.answers.proofs.indexes.tell_footer.Goals as goal
 
-pub returns-in-Refused : goal.returns-in-Refused
-unfolding footer_told
-returns-in-Refused c = crosses-as (sym (ap footer_told c.in-Refused.is)) c.refused.ensures
-
-pub returns-in-Passed : goal.returns-in-Passed
-unfolding footer_told layout_values result answer_words
-returns-in-Passed c =
-    crosses-as (sym (ap footer_told c.in-Passed.is))
-    (record { result_is = refl; words_are = rw (c.layout_words.ensures, c.length.ensures) refl })
+pub returns-in-Ok : goal.returns-in-Ok
+unfolding layout_values result answer_words
+returns-in-Ok c =
+    crosses-as (sym (ap footer_told c.in-Ok.is)) (record { result_is = refl; words_are = rw (c.words.ensures, c.length.ensures) refl })

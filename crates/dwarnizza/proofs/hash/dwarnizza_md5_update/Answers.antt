@@ -1,30 +1,27 @@
--- `dwarnizza::hash::dwarnizza_md5_update`: what `update` answers, laid out.
-use mathlib.Core.Path.{ap, ap₂, ◌∙◌}
+-- `dwarnizza::hash::dwarnizza_md5_update`: a refused part is past the limit, and leaves the state.
+use mathlib.Core.Path.{sym, ap, ◌∙◌}
 use Prim.Native.Nat.{◌+◌}
 use lib.ListN.{length}
-use Rattle.md5_digest.specs.Message.{is_too_long, absorbed, limited, updated}
-use Rattle.crossing.specs.Crossing.{verdict_outcome, lent_after}
-use Rattle.crossing.proofs.Laws.{crosses-as}
-use Rattle.answers.specs.Lent.{words_to}
-use Rattle.dwarnizza.specs.Md5State.{state_of}
-use Rattle.dwarnizza.proofs.LentLaws.{words-lent, rest-lent}
+use Rattle.refusal.specs.Check.{check_of}
+use Rattle.refusal.specs.Number.{hash_limit}
+use Rattle.refusal.proofs.Laws.{refused-test}
+use Rattle.md5_digest.specs.Message.{is_too_long, limited}
 use Rattle.dwarnizza.proofs.hash.dwarnizza_md5_update.Goals as goal
 
-pub returns : goal.returns
-returns c =
-    let s = c.state.ensures in
-    let a = c.args in
-    let part = a.part.now in
-    let state = state_of a.words.now a.pending.now a.count.now in
-    let late = is_too_long (a.count.now + length part) in
-    let v = c.update-updated.ensures.verdict ∙ ap (λ r. limited (r.count + length part)) s in
-    let e = c.update-updated.ensures.state ∙ ap (λ r. updated r part) s in
-    record {
-      crosses = crosses-as (ap verdict_outcome v) c.tell_state.ensures.crosses;
-      words_after = c.tell_state.ensures.words_after ∙ ap₂ (λ k r. lent_after k (words_to r.words) a.words.now) v e
-          ∙ words-lent late state (absorbed state part) a.words.now;
-      pending_after = c.tell_state.ensures.pending_after ∙ ap₂ (λ k r. lent_after k r.pending a.pending.now) v e
-          ∙ rest-lent (λ r. r.pending) late state (absorbed state part);
-      count_after = c.tell_state.ensures.count_after ∙ ap₂ (λ k r. lent_after k r.count a.count.now) v e
-          ∙ rest-lent (λ r. r.count) late state (absorbed state part);
-    }
+pub returns-in-Err-clause-words_after : goal.returns-in-Err-clause-words_after
+returns-in-Err-clause-words_after c =
+    let n = length c.args.part.now in
+    let told = sym (ap check_of c.in-Err.is) ∙ c.update-taken.ensures.check ∙ ap (λ s. limited (s.count + n)) c.state.ensures in
+    rw (refused-test (is_too_long (c.args.count.now + n)) hash_limit 0 _ _ (sym told))
+
+pub returns-in-Err-clause-pending_after : goal.returns-in-Err-clause-pending_after
+returns-in-Err-clause-pending_after c =
+    let n = length c.args.part.now in
+    let told = sym (ap check_of c.in-Err.is) ∙ c.update-taken.ensures.check ∙ ap (λ s. limited (s.count + n)) c.state.ensures in
+    rw (refused-test (is_too_long (c.args.count.now + n)) hash_limit 0 _ _ (sym told))
+
+pub returns-in-Err-clause-count_after : goal.returns-in-Err-clause-count_after
+returns-in-Err-clause-count_after c =
+    let n = length c.args.part.now in
+    let told = sym (ap check_of c.in-Err.is) ∙ c.update-taken.ensures.check ∙ ap (λ s. limited (s.count + n)) c.state.ensures in
+    rw (refused-test (is_too_long (c.args.count.now + n)) hash_limit 0 _ _ (sym told))

@@ -4,6 +4,4 @@ use Rattle.dwarnizza.proofs.LentLaws.{footer-told}
 use Rattle.dwarnizza.proofs.indexes.dwarnizza_index_footer.Goals as goal
 
 pub returns : goal.returns
-returns c =
-    let s = c.args.index.now in
-    crosses-as (footer-told s c.read_footer.result c.read_footer.ensures) c.tell_footer.ensures
+returns c = crosses-as (footer-told c.args.index.now c.read_footer.result c.read_footer.ensures) c.tell_footer.ensures

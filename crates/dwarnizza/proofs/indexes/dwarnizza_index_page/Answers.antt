@@ -9,4 +9,4 @@ pub returns : goal.returns
 returns c =
     let a = c.args in
     let same = ap (page_outcome a.index.now) c.page_of.ensures ∙ page-of-number a.index.now a.page in
-    crosses-as (c.find.ensures ∙ same) c.tell_page.ensures
+    crosses-as (c.find.ensures ∙ same) c.tell_found.ensures

@@ -1,11 +1,9 @@
--- `dwarnizza::roots::dwarnizza_root_find_path`: what `root_find_path::find_path` answers, laid out.
+-- `dwarnizza::roots::dwarnizza_root_find_path`: the content key, which stays where none is found.
 use mathlib.Core.Path.{◌∙◌}
-use lib.ListN.{replicate}
-use Rattle.crossing.proofs.Laws.{crosses-as}
 use Rattle.dwarnizza.proofs.LentLaws.{path-key-lent}
 use Rattle.dwarnizza.proofs.roots.dwarnizza_root_find_path.Goals as goal
 
-pub returns : goal.returns
-returns c =
-    let a = c.args in
-    record { crosses = crosses-as c.find_path.ensures.answer_value c.tell_record.ensures.crosses; key_after = c.tell_record.ensures.key_after ∙ path-key-lent a.file.now a.key.now (replicate 16 0) _ _ _ c.find_path.ensures.answer_value c.find_path.ensures.key_value }
+pub returns-clause-key_after : goal.returns-clause-key_after
+returns-clause-key_after c =
+    c.tell_keyed.ensures.key_after
+    ∙ path-key-lent c.args.file.now c.args.key.now c.find_path.result _ c.find_path.ensures.answer_value c.find_path.ensures.key_value
