@@ -5,15 +5,38 @@ use std::collections::BTreeMap;
 use crate::c::{Row, refusals};
 use crate::{header, text};
 
-/// The names and numbers that the crate `refusal` has, in its order.
+/// A reason's name as the header writes it: `INDEX_SHORT` for `IndexShort`.
+fn header_name(reason: &str) -> String {
+    let mut name = String::new();
+    for letter in reason.chars() {
+        if letter.is_uppercase() && !name.is_empty() {
+            name.push('_');
+        }
+        name.push(letter.to_ascii_uppercase());
+    }
+    name
+}
+
+/// The names and numbers of the reasons of the crate `refusal`, in its order.
 fn proved_numbers() -> Vec<(String, u32)> {
     let file = text("crates/refusal/src/lib.rt");
-    let constants = file.lines().filter_map(|line| {
-        let (name, number) = line.strip_prefix("pub const ")?.split_once(": u32 = ")?;
-        let number = number.strip_suffix(';')?.parse();
-        Some((name.to_owned(), number.expect("a constant is a number")))
+    let (_, reasons) = file
+        .split_once("pub enum Reason {\n")
+        .expect("the crate has the reasons");
+    let (reasons, _) = reasons.split_once("\n}\n").expect("the enum ends");
+    let rows = reasons
+        .lines()
+        .map(str::trim)
+        .filter(|line| !line.starts_with("//"));
+    let numbers = rows.map(|row| {
+        let (reason, number) = row
+            .trim_end_matches(',')
+            .split_once(" = ")
+            .expect("each reason has its number");
+        let number = number.parse().expect("it is a number");
+        (header_name(reason), number)
     });
-    constants.collect()
+    numbers.collect()
 }
 
 /// The numbers that the program `list_index` prints a place with.
@@ -21,20 +44,19 @@ fn numbers_with_place() -> Vec<u32> {
     let file = text("crates/listing_printed/src/lib.rt");
     let (_, function) = file
         .split_once("fn has_place(")
-        .expect("the crate tells which numbers have a place");
-    let (_, body) = function.split_once("\n{\n").expect("it has a body");
-    let (body, _) = body.split_once("\n}\n").expect("the body ends");
+        .expect("the crate tells which reasons have a place");
+    let (_, body) = function
+        .split_once("match reason {\n")
+        .expect("it names the reasons");
+    let (reasons, _) = body
+        .split_once(" => true,\n        _ => false,\n    }\n}\n")
+        .expect("all others have none");
     let numbers: BTreeMap<String, u32> = proved_numbers().into_iter().collect();
-    let ranges = body.split("||").map(|range| {
-        let range = range.trim();
-        let names = match range.strip_prefix("within(number, ") {
-            Some(range) => range.trim_end_matches(')').split_once(", "),
-            None => range.strip_prefix("number == ").map(|name| (name, name)),
-        };
-        let (first, last) = names.expect("each is a range or one number");
-        numbers[first]..=numbers[last]
+    let named = reasons.split('|').map(|reason| {
+        let reason = reason.trim().strip_prefix("Reason::");
+        numbers[&header_name(reason.expect("each is a reason"))]
     });
-    ranges.flatten().collect()
+    named.collect()
 }
 
 #[test]
