@@ -9,8 +9,8 @@ ghost use Rattle.root.specs.Lookup as lookup;
 
 use parts::{copy, part};
 use refusal::Refusal;
-use root_block::ids::delta_at;
-use root_block::{Block, KEY_SIZE};
+use root_block::ids::delta;
+use root_block::{Block, DELTA_SIZE, KEY_SIZE};
 use root_layout::Layout;
 
 // What a lookup finds: where the content key stands in the file, and the key by value.
@@ -76,7 +76,8 @@ fn search(file: &[u8], l: Layout, id: u32, locale: u32, unwanted: u64) -> Option
             let deltas = root_block::deltas(bytes, l);
             let mut last: i64 = -1;
             for i in 0..block.count {
-                let step = delta_at(deltas, i);
+                let d = DELTA_SIZE * i as usize;
+                let step = delta(deltas[d], deltas[d + 1], deltas[d + 2], deltas[d + 3]);
                 last = last + 1 + i64::from(step);
                 if last == sought {
                     let place = at + block.key_at(l, i);

@@ -4,8 +4,8 @@ ghost use Rattle.numbers.specs.Number.{little_at};
 ghost use Rattle.root_block.specs.Ids.{id_at};
 ghost use Rattle.root_find_path.specs.Records.{Whole, FoundWith, Judged};
 
-use root_block::Block;
-use root_block::ids::delta_at;
+use root_block::ids::delta;
+use root_block::{Block, DELTA_SIZE};
 use root_layout::Layout;
 
 // The name hash at an offset: eight little-endian bytes.
@@ -46,7 +46,8 @@ pub(crate) fn id_at(deltas: &[u8], count: u32, i: u32) -> u32
 {
     let mut id: i64 = -1;
     for j in 0..i + 1 {
-        let step = delta_at(deltas, j);
+        let at = DELTA_SIZE * j as usize;
+        let step = delta(deltas[at], deltas[at + 1], deltas[at + 2], deltas[at + 3]);
         id = id + 1 + i64::from(step);
     }
     id as u32

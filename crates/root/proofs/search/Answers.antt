@@ -15,6 +15,7 @@ use Rattle.root_block.specs.Ids.{delta_at}
 use Rattle.root_block.specs.Block as block
 use Rattle.root_block.specs.Block.{block_of, block_size, deltas_of, block_check, counts}
 use Rattle.root_block.proofs.Laws.{block-fits, deltas-length, key-inside}
+use Rattle.root_block.proofs.Reckoned.{delta-is}
 use Rattle.root.specs.Root.{size_at}
 use Rattle.root.specs.Lookup.{Record, record_at, records_from, first_of, wanted, key_told, found_told}
 use Rattle.root.proofs.Walk.{Walk, walk_start, size-some, walk_here, walk-next, walk_end}
@@ -56,7 +57,12 @@ module _ (s : List ℕ) (l : Layout) (at : ℕ) where
       → length d ≡ 4 * k.count
   long p k e d q = ap length (deltas-are d q) ∙ deltas-length _ _ (block-fits _ _ at p) ∙ ap (λ n. 4 * n) (sym (count-is k e))
 
-  -- the record at hand: where its key stands
+  -- the record at hand: the bytes of its delta are there
+  delta-there : (want : Record → Bool) → at < length s → Walk s l (Unsearched s l want) at → (k : Block) → k ≡ block_of l lent
+      → (d : List ℕ) → d ≡ deltas_of l lent → (i : ℕ) → i < k.count → 4 * i + 4 ≤ length d
+  delta-there want h w k e d q i less = omega (arith, long (passed want h w) k e d q)
+
+  -- where its key stands
   key-is : (key i : ℕ) (k : Block) → key ≡ block.key_at l k i → k ≡ block_of l lent → key ≡ block.key_at l (block_of l (drop at s)) i
   key-is key i k q e = q ∙ ap (λ b. block.key_at l b i) (block-is k e)
 
@@ -75,6 +81,30 @@ blocks-2-init c = (refl, walk_start _ _ (Unsearched _ _ _) (c.requires, refl))
 pub loop-i-init : goal.loop-i-init
 loop-i-init c = (c.blocks-2.invariant.0, passing-none _ _ _ _ _)
 
+pub bounds-deltas-d : goal.bounds-deltas-d
+bounds-deltas-d c =
+    let want = wanted c.args.id c.args.locale c.args.unwanted in
+    let there = delta-there _ _ _ want c.blocks-2-test.true c.blocks-2.invariant.1 _ c.read-block.ensures _ c.deltas-deltas.ensures in
+    omega (arith, there c.loop-i.i c.loop-i-test.true)
+
+pub bounds-deltas-d-in-loop-i : goal.bounds-deltas-d-in-loop-i
+bounds-deltas-d-in-loop-i c =
+    let want = wanted c.args.id c.args.locale c.args.unwanted in
+    let there = delta-there _ _ _ want c.blocks-2-test.true c.blocks-2.invariant.1 _ c.read-block.ensures _ c.deltas-deltas.ensures in
+    omega (arith, there c.loop-i.i c.loop-i-test.true)
+
+pub bounds-deltas-d-in-loop-i-2 : goal.bounds-deltas-d-in-loop-i-2
+bounds-deltas-d-in-loop-i-2 c =
+    let want = wanted c.args.id c.args.locale c.args.unwanted in
+    let there = delta-there _ _ _ want c.blocks-2-test.true c.blocks-2.invariant.1 _ c.read-block.ensures _ c.deltas-deltas.ensures in
+    omega (arith, there c.loop-i.i c.loop-i-test.true)
+
+pub bounds-deltas-d-in-loop-i-3 : goal.bounds-deltas-d-in-loop-i-3
+bounds-deltas-d-in-loop-i-3 c =
+    let want = wanted c.args.id c.args.locale c.args.unwanted in
+    let there = delta-there _ _ _ want c.blocks-2-test.true c.blocks-2.invariant.1 _ c.read-block.ensures _ c.deltas-deltas.ensures in
+    omega (arith, there c.loop-i.i c.loop-i-test.true)
+
 pub overflow_add-last : goal.overflow_add-last
 overflow_add-last c =
     let s = c.args.file.now in
@@ -82,7 +112,7 @@ overflow_add-last c =
     let at = c.blocks-2.at in
     let p = passed s l at (wanted c.args.id c.args.locale c.args.unwanted) c.blocks-2-test.true c.blocks-2.invariant.1 in
     last_fits c.loop-i.last-bits c.loop-i.invariant.1 p (count-is s l at c.read-block.result c.read-block.ensures) c.loop-i-test.true
-    c.delta_at-step.result c.delta_at-step.type_inv
+    c.delta-step.result c.delta-step.type_inv
 
 pub overflow_add-last-in-loop-i : goal.overflow_add-last-in-loop-i
 overflow_add-last-in-loop-i c =
@@ -92,7 +122,7 @@ overflow_add-last-in-loop-i c =
     let p = passed s l at (wanted c.args.id c.args.locale c.args.unwanted) c.blocks-2-test.true c.blocks-2.invariant.1 in
     rw c.from.ensures
     (next_fits c.loop-i.last-bits c.loop-i.invariant.1 p (count-is s l at c.read-block.result c.read-block.ensures) c.loop-i-test.true
-    c.delta_at-step.result c.delta_at-step.type_inv)
+    c.delta-step.result c.delta-step.type_inv)
 
 pub overflow_add-place : goal.overflow_add-place
 overflow_add-place c =
@@ -113,14 +143,16 @@ loop-i-preserved c =
     let n = count-is s l at c.read-block.result c.read-block.ensures in
     let here =
     sym (counted s l at c.read-block.result c.read-block.ensures c.args.locale c.args.unwanted c.counts.result c.counts.ensures) ∙ c.if-counts.true in
-    let step-is = c.delta_at-step.ensures ∙ ap (λ x. delta_at x c.loop-i.i) (deltas-are s l at c.deltas-deltas.result.now c.deltas-deltas.ensures) in
+    let deltas = deltas-are s l at c.deltas-deltas.result.now c.deltas-deltas.ensures in
+    let i = c.loop-i.i in
+    let step-is = delta-is _ i (4 * i) c.delta-step.result refl c.delta-step.ensures ∙ ap (λ x. delta_at x i) deltas in
     let p = c.loop-i.invariant.1 in
     let less = c.loop-i-test.true in
     let other = rw (c.from.ensures, c.from-sought.ensures) at c.if-last-sought.false in (
       c.loop-i.invariant.0,
       rw c.from.ensures
-          (passing-next c.loop-i.last-bits p e n less c.delta_at-step.result c.delta_at-step.type_inv step-is
-          (number-other c.loop-i.last-bits p e n less c.delta_at-step.result c.delta_at-step.type_inv step-is _ _ _ here other)),
+          (passing-next c.loop-i.last-bits p e n less c.delta-step.result c.delta-step.type_inv step-is
+          (number-other c.loop-i.last-bits p e n less c.delta-step.result c.delta-step.type_inv step-is _ _ _ here other)),
     )
 
 pub overflow_add-at : goal.overflow_add-at
@@ -183,13 +215,14 @@ returns-then-last-sought c =
     let e = passed s l at want c.blocks-2-test.true c.blocks-2.invariant.1 in
     let n = count-is s l at k c.read-block.ensures in
     let here = sym (counted s l at k c.read-block.ensures c.args.locale c.args.unwanted c.counts.result c.counts.ensures) ∙ c.if-counts.true in
-    let step-is = c.delta_at-step.ensures ∙ ap (λ x. delta_at x i) (deltas-are s l at c.deltas-deltas.result.now c.deltas-deltas.ensures) in
+    let deltas = deltas-are s l at c.deltas-deltas.result.now c.deltas-deltas.ensures in
+    let step-is = delta-is _ i (4 * i) c.delta-step.result refl c.delta-step.ensures ∙ ap (λ x. delta_at x i) deltas in
     let p = c.loop-i.invariant.1 in
     let less = c.loop-i-test.true in
     let w = walk_here s l (Unsearched s l want) at c.blocks-2-test.true c.blocks-2.invariant.1 in
     let same = rw (c.from.ensures, c.from-sought.ensures) at c.if-last-sought.true in
-    let this-one = number-found c.loop-i.last-bits p e n less c.delta_at-step.result c.delta_at-step.type_inv step-is _ _ _ here same in
-    let first = found_here s l want at _ w _ n ∙ passing-found c.loop-i.last-bits p e n less c.delta_at-step.result c.delta_at-step.type_inv this-one _ in
+    let this-one = number-found c.loop-i.last-bits p e n less c.delta-step.result c.delta-step.type_inv step-is _ _ _ here same in
+    let first = found_here s l want at _ w _ n ∙ passing-found c.loop-i.last-bits p e n less c.delta-step.result c.delta-step.type_inv this-one _ in
     let key = key-is s l at c.key_at.result i k c.key_at.ensures.value c.read-block.ensures in
     let whole = key-whole s l at e c.blocks-2-test.true c.key_at.result i k less c.key_at.ensures.value c.read-block.ensures in record {
       result_value = ap (λ k. answered ((at + k) ∷ [])) key ∙ sym (ap key_told first);

@@ -2,7 +2,7 @@
 use mathlib.Core.Path.{◌≡◌, refl, sym, ap, ◌∙◌, subst}
 use mathlib.Core.Bool.{true}
 use mathlib.Core.List.{List}
-use Prim.Native.Nat.{ℕ, ◌+◌, ◌<◌}
+use Prim.Native.Nat.{ℕ, ◌+◌, ◌*◌, ◌<◌}
 use native.Mathlib.Numerals.{add-one}
 use native.Mathlib.Omega.{arith}
 use lib.Dec.{T}
@@ -12,7 +12,7 @@ use mir.Syntax.{w32}
 use mir.Val.{Fits}
 use Rattle.root_block.specs.Ids.{id_at, in_range}
 use Rattle.root_block.proofs.Signed.{range-fits, range-pos}
-use Rattle.root_block.proofs.Reckoned.{id_before, id-in-range, last_fits, next_fits, next-before}
+use Rattle.root_block.proofs.Reckoned.{delta-is, id_before, id-in-range, last_fits, next_fits, next-before}
 use Rattle.root_find_path.specs.Records.{Judged}
 use Rattle.root_find_path.proofs.records.id_at.Goals as goal
 
@@ -33,20 +33,21 @@ pub overflow_add-id : goal.overflow_add-id
 overflow_add-id c =
     let j = c.requires.judged in
     let inside : c.loop-j.j < c.args.count = omega arith in
-    last_fits _ _ j.place j.passes _ c.loop-j.id-bits c.loop-j.invariant inside c.delta_at-step.result c.delta_at-step.type_inv
+    last_fits _ _ j.place j.passes _ c.loop-j.id-bits c.loop-j.invariant inside c.delta-step.result c.delta-step.type_inv
 
 pub overflow_add-id-in-loop-j : goal.overflow_add-id-in-loop-j
 overflow_add-id-in-loop-j c =
     let j = c.requires.judged in
     let inside : c.loop-j.j < c.args.count = omega arith in
-    rw c.from.ensures (next_fits _ _ j.place j.passes _ c.loop-j.id-bits c.loop-j.invariant inside c.delta_at-step.result c.delta_at-step.type_inv)
+    rw c.from.ensures (next_fits _ _ j.place j.passes _ c.loop-j.id-bits c.loop-j.invariant inside c.delta-step.result c.delta-step.type_inv)
 
 pub loop-j-preserved : goal.loop-j-preserved
 loop-j-preserved c =
     let j = c.requires.judged in
     let inside : c.loop-j.j < c.args.count = omega arith in
+    let step-is = delta-is c.args.deltas.now c.loop-j.j (4 * c.loop-j.j) c.delta-step.result refl c.delta-step.ensures in
     rw c.from.ensures
-    (next-before _ _ j.place j.passes _ c.loop-j.id-bits c.loop-j.invariant inside c.delta_at-step.result c.delta_at-step.type_inv c.delta_at-step.ensures)
+    (next-before _ _ j.place j.passes _ c.loop-j.id-bits c.loop-j.invariant inside c.delta-step.result c.delta-step.type_inv step-is)
 
 pub overflow_cast-result : goal.overflow_cast-result
 overflow_cast-result c =
