@@ -50,6 +50,11 @@ pub digits-none : binary_digits 0 ≡ 0
 unfolding binary_digits digits_from
 digits-none = refl
 
+-- The most entries that an index has.
+pub digits-limit : binary_digits 8388608 ≡ 24
+unfolding binary_digits digits_from least_or
+digits-limit = refl
+
 pub digits-mono : {m n : ℕ} → m ≤ n → binary_digits m ≤ binary_digits n
 digits-mono {m} {n} h = (digits-least m).least (binary_digits n) (omega (arith, (digits-least n).below))
 
@@ -122,6 +127,16 @@ module _ (below : ℕ → Bool) where
       ])
       turns start w count h w (omega arith)
 
+  -- The place lies in the range, or just after it.
+  pub halve-place : (w : ℕ) → (halve below w).place ≤ w
+  unfolding halve
+  halve-place w =
+      by-halving (λ start v count r. start + v ≤ w → r.place ≤ w)
+      (λ start count h. omega arith)
+      (λ start v count r some t p h. p (omega arith))
+      (λ start v count r some t p h. p (omega arith))
+      w 0 w 0 (omega arith) (omega arith)
+
   -- At most as many keys are compared as the range has binary digits.
   pub halve-count : (w : ℕ) → (halve below w).count ≤ binary_digits w
   unfolding halve
@@ -152,6 +167,11 @@ halve-first below w rising =
     (rw same stops))
     (λ start v count r some t p h before stops. p (omega arith) before (λ l. t))
     w 0 w 0 (omega arith) (omega arith) (λ i h. absurd (omega arith)) (λ h. absurd (omega arith))
+
+pub first-unique : {below : ℕ → Bool} {w p q : ℕ} → First below w p → First below w q → p ≡ q
+first-unique {below} {w} {p} {q} f g =
+    by_order p q (λ l. absurd (true-or-false (g.before p l) (f.stops (omega (arith, g.inside)))))
+    (λ m. by_order q p (λ l. absurd (true-or-false (f.before q l) (g.stops (omega (arith, f.inside))))) (λ l. omega arith))
 
 -- The halving asks of no key outside the range.
 pub halve-agree : (p q : ℕ → Bool) (w : ℕ) → ((i : ℕ) → i < w → p i ≡ q i) → halve p w ≡ halve q w

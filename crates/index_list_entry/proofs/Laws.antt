@@ -1,6 +1,6 @@
 -- Laws of one entry of a list.
 use mathlib.Core.Path.{◌≡◌, refl, sym, ap, ap₂, ◌∙◌}
-use mathlib.Core.Bool.{cond}
+use mathlib.Core.Bool.{true, false, not, cond}
 use mathlib.Core.List.{List, ◌∷◌, ◌++◌}
 use Rattle.std.specs.Int.{bytes_high_first}
 use Prim.Native.Nat.{ℕ, zero, suc, ◌+◌, ◌-◌, ◌/◌, ◌%◌, ◌^◌, ◌≤◌, ◌<◌}
@@ -12,14 +12,14 @@ use lib.Seq.{take_all}
 use borrow.Author.Tests.{ltb-true, ltb-false, leb-true, eqb-true, eqb-false, not-false}
 use Rattle.parts.specs.Part.{part_at, overlay}
 use Rattle.parts.proofs.Laws.{by-test, both, overlay-after, overlay-inside}
-use Rattle.refusal.specs.Check.{silent}
+use Rattle.refusal.specs.Check.{silent, refused}
 use Rattle.refusal.specs.Number.{settings, index_key_length, output_short}
 use Rattle.refusal.specs.Output.{filled, room_check}
-use Rattle.refusal.proofs.Laws.{silent-test, first-left, first-right}
+use Rattle.refusal.proofs.Laws.{silent-test, first-left, first-right, said, quiet, first_said, skip}
 use Rattle.index_layout.specs.Layout.{entry_size, least_offset_width, most_offset_width, most_key_length, size_width}
 use Rattle.index_entry.specs.Entry.{archive_width}
 use Rattle.index_writer.specs.declared.Settings.{Settings}
-use Rattle.index_writer.specs.Write.{list_entry_size, settings_check}
+use Rattle.index_writer.specs.Write.{settings_right, list_entry_size, settings_check}
 use Rattle.index_writer.proofs.Passed.{right}
 use Rattle.index_list_entry.specs.Put.{big_bytes, most_archive, offset_bytes, location_right, location_check, key_check, put_check, entry_bytes}
 
@@ -74,11 +74,11 @@ archive-most : (w : ℕ) → most_archive w ≤ 65535
 unfolding most_archive
 archive-most w = by-test (eqb w archive_width) (λ t. rw t (omega arith)) (λ t. rw t (omega arith))
 
-limit-five : (w : ℕ) → w ≡ 5 → 1099511627776 ≡ 256 ^ offset_bytes w
+pub limit-five : (w : ℕ) → w ≡ 5 → 1099511627776 ≡ 256 ^ offset_bytes w
 unfolding offset_bytes
 limit-five w e = sym (ap (λ n. 256 ^ offset_bytes n) e)
 
-limit-four : (w : ℕ) → least_offset_width ≤ w → w ≤ most_offset_width → (w ≡ 5 → ⊥) → 4294967296 ≡ 256 ^ offset_bytes w
+pub limit-four : (w : ℕ) → least_offset_width ≤ w → w ≤ most_offset_width → (w ≡ 5 → ⊥) → 4294967296 ≡ 256 ^ offset_bytes w
 unfolding offset_bytes
 limit-four w low high other =
     by-test (eqb w archive_width) (λ t. sym (ap (λ b. 256 ^ cond b 4 w) t))
@@ -89,6 +89,14 @@ limit-four w low high other =
 limit-most : (w : ℕ) → least_offset_width ≤ w → w ≤ most_offset_width → 256 ^ offset_bytes w ≤ 1099511627776
 limit-most w low high =
     by-test (eqb w 5) (λ t. omega (arith, limit-five w (eqb-true w 5 t))) (λ t. omega (arith, limit-four w low high (eqb-false w 5 t)))
+
+-- ---- a refusal
+
+-- 11: the location is none that the settings hold
+pub put-location : (s : Settings) (key : List ℕ) (archive offset room : ℕ) → settings_right s ≡ true
+    → location_right s.offset_width archive offset ≡ false → put_check s key archive offset room ≡ refused settings 0
+unfolding put_check
+put-location s key archive offset room right e = skip (quiet settings 0 refl (ap not right)) (first_said _ (said refl (ap not e)))
 
 -- ---- what is known where none is given
 

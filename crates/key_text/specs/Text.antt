@@ -45,6 +45,6 @@ text_bytes [] = []
 text_bytes (x ∷ []) = []
 text_bytes (x ∷ y ∷ text) = (digit_of x * 16 + digit_of y) ∷ text_bytes text
 
--- The sixteen bytes that carry a key by value: the key's, and zeros past them (rule T4); zeros beside a refusal (rule G13).
+-- The sixteen bytes that carry a key by value: the key's, and zeros past them (rule T4); zeros for a text that is refused, which no answer hands back (rule G13).
 abbrev pub carried : List ℕ → ℕ → List ℕ
 carried text k = filled (text_check text k) (text_bytes text) (replicate 16 0)

@@ -9,6 +9,13 @@ use Rattle.md5_block.specs.declared.Words.{Words}
 use Rattle.std.specs.Int.{w32, rotate_left}
 use Rattle.md5_block.specs.Block.{shifts, step, steps, word, words_of, sum, block, blocks, whole, rotated}
 
+-- a round that is none of the first three is the fourth
+pub past_two : (r : ℕ) → (r ≡ 0 → ⊥) → (r ≡ 1 → ⊥) → (r ≡ 2 → ⊥) → (n : ℕ) × (r ≡ suc (suc (suc n)))
+past_two zero p q s = absurd (p refl)
+past_two (suc zero) p q s = absurd (q refl)
+past_two (suc (suc zero)) p q s = absurd (s refl)
+past_two (suc (suc (suc n))) p q s = (n, refl)
+
 module _ (t x : List ℕ) (i : ℕ) where
   -- one step more
   pub next : (n : ℕ) (v : Words) {w u : Words} → w ≡ steps t x i n v → u ≡ step t x (i + n) w → u ≡ steps t x i (suc n) v

@@ -17,7 +17,12 @@ use Rattle.md5_block.proofs.BlockLaws.{whole_append, whole-none}
 use Rattle.md5_end.specs.End.{zeros, rest, zero_filled}
 use Rattle.md5_end.proofs.EndLaws.{over_zeros, rest-length}
 use Rattle.md5_digest.specs.declared.Md5.{Md5}
-use Rattle.md5_digest.specs.Message.{waiting, absorbed, is_too_long}
+use Rattle.std.specs.Prelude.{Result, Ok, Err, IfOk}
+use Rattle.refusal.specs.declared.Refusal.{Refusal}
+use Rattle.refusal.specs.Check.{check_of}
+use Rattle.refusal.specs.Number.{hash_limit}
+use Rattle.refusal.proofs.Laws.{never, quiet}
+use Rattle.md5_digest.specs.Message.{waiting, absorbed, is_too_long, limited, md5}
 
 -- the end of a message's waiting bytes is that of the message
 pub waiting-zeros : (p : List ℕ) (n : ℕ) → length p ≡ n % 64 → zeros (length p) ≡ zeros n
@@ -97,3 +102,9 @@ limit-left count n h = go (leb n (2 ^ 48 - count)) refl
     go : (b : Bool) → leb n (2 ^ 48 - count) ≡ b → is_too_long (count + n) ≡ not b
     go true e = le-ltb (2 ^ 48) (count + n) (omega (arith, leb-true n (2 ^ 48 - count) e))
     go false e = over count n (omega (arith, leb-false n (2 ^ 48 - count) e))
+
+-- a message within the limit has its digest
+pub short-hashed : (m : List ℕ) (r : Result (List ℕ) Refusal) → length m ≤ 2 ^ 48 → check_of r ≡ limited (length m)
+    → IfOk r (λ bytes. bytes ≡ md5 m) → r ≡ Ok (md5 m)
+short-hashed m (Ok bytes) l e d = ap Ok d
+short-hashed m (Err r) l e d = absurd (never (e ∙ quiet hash_limit 0 refl (le-ltb (2 ^ 48) (length m) l)))

@@ -1,5 +1,5 @@
 -- Laws of hashlittle2, of the bytes of a path as they are hashed, and of the answer.
-use Rattle.std.proofs.Common.{◌≡◌, ℕ, zero, suc, ◌+◌, ◌-◌, ◌*◌, ◌<◌, ◌≤◌, min, ltb, List, [], ◌∷◌, length, set, replicate}
+use Rattle.std.proofs.Common.{◌≡◌, ℕ, zero, suc, ◌+◌, ◌-◌, ◌*◌, ◌%◌, ◌^◌, ◌<◌, ◌≤◌, min, ltb, List, [], ◌∷◌, length, set, replicate}
 use Rattle.std.proofs.Common.{sym, refl, ap, ◌∙◌, zero-add, add-one, arith, ltb-false, ltb-true, eq-eqb, ne_eqb}
 use lib.ListN.{length-map, length-replicate, get_or-map, get_or-eq_default}
 use lib.Seq.{paste, paste-suc}
@@ -13,10 +13,14 @@ use Rattle.refusal.specs.Number.{number_of}
 use Rattle.refusal.specs.declared.Refusal.{Refusal}
 use Rattle.refusal.proofs.Laws.{told-answer, told-refusal}
 use Rattle.name_hash.specs.declared.Words.{Words}
-use Rattle.name_hash.specs.Hashlittle.{lines, mix, final, start, added_at, mixed, block_count, ended, hashlittle2}
+use Rattle.name_hash.specs.Hashlittle.{subtract, lines, mix, final, start, added_at, mixed, block_count, ended, hashlittle2}
 use Rattle.name_hash.specs.NameHash.{normal_byte, normalized, name_hash, path_check, hash_outcome, outcome}
 
 -- ---- words
+
+-- what wrapping subtraction gives
+pub wrapped : (x y r : ℕ) → x < 2 ^ 32 → y < 2 ^ 32 → r < 2 ^ 32 → (r + y) % 2 ^ 32 ≡ x → r ≡ subtract x y
+wrapped x y r p q s e = omega arith
 
 module _ (line : ℕ → Words → Words) where
   -- six lines, one after the other, and seven

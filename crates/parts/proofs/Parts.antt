@@ -5,10 +5,15 @@ use Prim.Native.Nat.{ℕ, zero, suc, ◌+◌, ◌-◌, ◌*◌, ◌≤◌, ◌<�
 use native.Mathlib.Nat.{le_trans, zero-add, add-zero, add-suc, suc-add, suc-mul, zero-mul}
 use native.Mathlib.Numerals.{add-one-le}
 use native.Mathlib.Omega.{arith}
-use lib.ListN.{length, take, drop, length-append}
+use lib.ListN.{length, take, drop, length-append, length-drop}
 use lib.Seq.{take-append_seam, drop-append-add, drop-drop, take-add}
 use Rattle.parts.specs.Part.{part_at, overlay, parts_from}
 use Rattle.parts.proofs.Laws.{overlay-next, overlay-after}
+
+-- output that is filled so far keeps its length
+pub filled-length : (done out old : List ℕ) → old ≡ done ++ drop (length done) out → length done ≤ length out → length old ≡ length out
+filled-length done out old e h =
+    ap length e ∙ length-append done (drop (length done) out) ∙ ap (λ n. length done + n) (length-drop (length done) out) ∙ omega arith
 
 -- a part of two runs of bytes that starts in the second
 pub part-after : (a b : List ℕ) (at n count : ℕ) → length a ≡ n → part_at (a ++ b) (n + at) count ≡ part_at b at count

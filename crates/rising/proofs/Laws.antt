@@ -3,7 +3,7 @@ use mathlib.Core.Path.{◌≡◌, sym, ap, ap₂, ◌∙◌}
 use mathlib.Core.Bool.{Bool, true, false, not, cond}
 use mathlib.Core.List.{List}
 use Prim.Native.Nat.{ℕ, zero, suc, ◌+◌, ◌-◌, ◌*◌, ◌≤◌, ◌<◌}
-use native.Mathlib.Nat.{le_refl, suc-mul, one-mul, mul-le-mul_right, not-suc-le-zero}
+use native.Mathlib.Nat.{le_refl, suc-mul, one-mul, mul-le-mul, mul-le-mul_right, not-suc-le-zero}
 use native.Mathlib.Omega.{arith}
 use lib.Dec.{ltb}
 use borrow.Author.Tests.{lt-ltb, le-ltb}
@@ -16,7 +16,10 @@ use Rattle.refusal.specs.Check.{Check, refused_if, first, first_from}
 use Rattle.refusal.proofs.Laws.{first_said, first-quiet}
 use Rattle.rising.specs.Fall.{rises_at, fall_from}
 
--- a key's offset is at least the stride from the second key on
+-- a key's offset fits, and is at least the stride from the second key on
+pub at-fits : (i stride : ℕ) → i ≤ 4294967295 → stride ≤ 65535 → i * stride ≤ 4294967295 * 65535
+at-fits i stride h k = mul-le-mul h k
+
 pub at_least : (i stride : ℕ) → 1 ≤ i → stride ≤ i * stride
 at_least i stride h = omega (arith, mul-le-mul_right stride h, one-mul stride)
 

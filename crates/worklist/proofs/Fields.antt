@@ -117,7 +117,7 @@ pub part-found : {t : List ℕ} {told : Outcome} {f : Span} → FoundAt t told f
 part-found {t} {told} {f} g =
     ap₂ (λ n p. take n (drop p t)) (add-sub_cancel_left f.at f.length ∙ sym g.size) (sym g.place)
 
-part_none : (t : List ℕ) (told : Outcome) → (place_of told ≡ 0) × (length_of told ≡ 0) → [] ≡ field_part t told
+pub part_none : (t : List ℕ) (told : Outcome) → (place_of told ≡ 0) × (length_of told ≡ 0) → [] ≡ field_part t told
 part_none t told e = sym (ap₂ (λ n p. take n (drop p t)) e.1 e.0)
 
 module _ (t : List ℕ) (at sep column : ℕ) where
